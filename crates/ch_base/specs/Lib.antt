@@ -1,0 +1,5 @@
+pub mod Escape
+pub mod Grammar
+pub mod Growth
+pub mod JsonText
+pub mod JsonTree

@@ -1,0 +1,30 @@
+//! The data that all crates share: texts, lists, the calls on shards with their answers, frames,
+//! webhook events, and `Served`, whose calls are entries of a history.
+//!
+//! A `Text` is its bytes, which are UTF-8; a list is its elements in order; all other types are
+//! plain data. `specs/` has the grammar of JSON texts (RFC 8259), the escaping of strings, and what
+//! it means that a list of entries grows by a call.
+#![tactic(auto)]
+
+mod channel;
+mod entry;
+mod frame;
+mod items;
+mod memory;
+mod served;
+mod text;
+mod user;
+mod webhook;
+
+pub use channel::{ChanAnswer, ChanCall, Member, NameRow};
+pub use entry::Entry;
+pub use frame::{Frame, FrameFor};
+pub use items::{Bytes, FrameList, HookList, Items, MemberList, NameRows, TextList};
+pub use memory::Memory;
+pub use served::Served;
+pub use text::Text;
+pub use user::{UserAnswer, UserCall};
+pub use webhook::Hook;
+
+#[cfg(test)]
+mod tests;
