@@ -1,0 +1,14 @@
+-- What a write to a sink takes.
+use Rattle.std.specs.Prelude.{ℕ, ◌<◌, ◌≤◌, List, [], length, take}
+use Rattle.ch_io.specs.declared.sink.Wrote.{Wrote as Answer}
+use Rattle.ch_io.specs.declared.sink.Wrote.TheVariants.{Wrote, Failed}
+
+-- the bytes that a write took
+abbrev pub taken : Answer → List ℕ → List ℕ
+taken (Wrote n) bytes = take n bytes
+taken Failed bytes = []
+
+-- a write takes at least one byte, and no more than there are
+abbrev pub IsPart : Answer → List ℕ → Type 0
+IsPart (Wrote n) bytes = (0 < n) × (n ≤ length bytes)
+IsPart Failed bytes = Unit {0}

@@ -1,0 +1,42 @@
+-- What the service of one line gives, and what is written at the end.
+use Rattle.std.specs.Prelude.{◌≡◌, ℕ, List, [], take, Option, Some, None, ◌⊎◌}
+use Rattle.std.specs.Io.KnownBytes.{Appends}
+use Rattle.ch_transcript.specs.Printing.{error_line, long_line}
+use Rattle.ch_transcript.specs.Replayed.{WritesLast}
+use Rattle.ch_transcript.specs.Transcript.{Played}
+use Rattle.ch_transcript.specs.declared.ending.Ending.{Ending}
+use Rattle.ch_transcript.specs.declared.ending.Ending.TheVariants.{Done, NotALine, LongLine, ReadFailed, WriteFailed, Memory}
+use Rattle.ch_replay.specs.declared.player.Player.{Player}
+use Rattle.ch_replay.specs.Playing.{IsAt}
+
+-- the line's output was written
+pub record Serves (player : Player) (told_old told_new : Option (List ℕ)) (o : Option Played) : Type 0 where
+  pub played : Played
+  pub is : o ≡ Some played
+  pub gained : Appends told_old told_new played.text
+  pub next : IsAt player played.next
+
+-- a front of the line's output was written
+pub record Breaks (told_old told_new : Option (List ℕ)) (o : Option Played) : Type 0 where
+  pub played : Played
+  pub is : o ≡ Some played
+  pub count : ℕ
+  pub gained : Appends told_old told_new (take count played.text)
+
+-- the line was not served
+abbrev pub Stops : Ending → Option (List ℕ) → Option (List ℕ) → Option Played → Type 0
+Stops NotALine told_old told_new o = (o ≡ None) × Appends told_old told_new []
+Stops WriteFailed told_old told_new o = Breaks told_old told_new o
+Stops Memory told_old told_new o = Appends told_old told_new []
+Stops _ told_old told_new o = ⊥
+
+-- the line is named last, unless there is no memory for that
+abbrev pub NamesBy : List ℕ → Ending → Ending → Option (List ℕ) → Option (List ℕ) → Type 0 → Type 0
+NamesBy line wanted result told_old told_new write_failed =
+    ((result ≡ wanted) × WritesLast line told_old told_new write_failed) ⊎ ((result ≡ Memory) × Appends told_old told_new [])
+
+-- how the replay ends where a line ends it
+abbrev pub EndsAt : Ending → ℕ → Ending → Option (List ℕ) → Option (List ℕ) → Type 0 → Type 0
+EndsAt NotALine number result told_old told_new write_failed = NamesBy (error_line number) NotALine result told_old told_new write_failed
+EndsAt LongLine number result told_old told_new write_failed = NamesBy (long_line number) LongLine result told_old told_new write_failed
+EndsAt ending number result told_old told_new write_failed = (result ≡ ending) × Appends told_old told_new []

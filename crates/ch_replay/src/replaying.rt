@@ -1,0 +1,153 @@
+ghost use Rattle.std.specs.Prelude.{◌≡◌, ◌≤◌, ◌^◌, ◌↔◌, true, false, MatchResult, ◌⊎◌};
+ghost use Rattle.ch_io.specs.Counts.{Rose};
+ghost use Rattle.ch_transcript.specs.Printing.{usage_line};
+ghost use Rattle.ch_transcript.specs.Replayed.{Ran, WritesLast, is_replay, status_of};
+ghost use Rattle.ch_transcript.specs.Transcript.{Progress, played};
+ghost use Rattle.ch_replay.specs.Playing.{IsAt};
+ghost use Rattle.ch_replay.specs.Serving.{Serves, Stops, EndsAt};
+
+use crate::line_reader::{LineReader, Next};
+use crate::player::{LineFault, Player};
+use crate::printing::{error_line, long_line};
+use ch_base::Text;
+use ch_io::{Sink, Source, write_all};
+use ch_transcript::Ending;
+use std::alloc::Global;
+
+/// Replays the transcript of a source into a sink, and answers the status of the program.
+///
+/// | Status | Comes |
+/// |---|---|
+/// | 0 | the transcript was read to its end |
+/// | 2 | the words aren't `replay` alone; the usage line is written |
+/// | 4 | a line isn't a transcript line; it is named last |
+/// | 5 | a read of the source failed |
+/// | 6 | a write to the sink failed |
+/// | 7 | want of memory |
+/// | 8 | a line is longer than 1,048,576 bytes; it is named last |
+///
+/// The configuration isn't looked at yet: the built-in one serves.
+pub fn replay<S: Source, K: Sink>(
+    alloc: Global,
+    words: &[Text],
+    config: Option<&[u8]>,
+    source: &mut S,
+    sink: &mut K,
+) -> u8
+    ensures words { (result ≡ 2) ↔ (is_replay words.now ≡ false) }
+    ensures usage { result ≡ 2 → WritesLast usage_line (K.told sink.old) (K.told sink.new) (Rose (K.faults sink.old) (K.faults sink.new)) }
+    ensures unread { result ≡ 2 → source.new ≡ source.old }
+    ensures ran { is_replay words.now ≡ true → (ending : Ending) × (result ≡ status_of ending)
+        × Ran (S.left source.old) (S.left source.new) (K.told sink.old) (K.told sink.new) (Rose (K.faults sink.old) (K.faults sink.new)) ending }
+    ensures read_fault { result ≡ 5 → Rose (S.faults source.old) (S.faults source.new) }
+    ensures write_fault { result ≡ 6 → Rose (K.faults sink.old) (K.faults sink.new) }
+{
+    let _ = config;
+    if !is_replay(words) {
+        write_last(sink, "usage: channelsd replay\n");
+        return 2;
+    }
+    status_of(replay_lines(alloc, source, sink))
+}
+
+fn status_of(ending: Ending) -> u8
+    ensures { result ≡ status_of ending }
+{
+    match ending {
+        Ending::Done => 0,
+        Ending::NotALine => 4,
+        Ending::ReadFailed => 5,
+        Ending::WriteFailed => 6,
+        Ending::Memory => 7,
+        Ending::LongLine => 8,
+    }
+}
+
+fn is_replay(words: &[Text]) -> bool
+    ensures { result ≡ is_replay words.now }
+{
+    match words {
+        [word] => word.as_str() == "replay",
+        _ => false,
+    }
+}
+
+/// Replays line by line: the output of a line is written before the next one is read.
+fn replay_lines<S: Source, K: Sink>(alloc: Global, source: &mut S, sink: &mut K) -> Ending
+    ensures ran { Ran (S.left source.old) (S.left source.new) (K.told sink.old) (K.told sink.new) (Rose (K.faults sink.old) (K.faults sink.new)) result }
+    ensures read_fault { result ≡ Ending.ReadFailed → Rose (S.faults source.old) (S.faults source.new) }
+    ensures write_fault { result ≡ Ending.WriteFailed → Rose (K.faults sink.old) (K.faults sink.new) }
+{
+    let mut player = Player::new(alloc);
+    let mut reader = LineReader::new();
+    let mut line = Vec::new(alloc);
+    let mut out = Vec::new(alloc);
+    let mut number: u64 = 1;
+    'lines: loop {
+        match reader.next(source, &mut line) {
+            Next::Whole => match serve(&mut player, line.as_slice(), &mut out, sink) {
+                Ok(()) => number += 1,
+                Err(ending) => return end_at(alloc, sink, ending, number),
+            },
+            Next::Last => match serve(&mut player, line.as_slice(), &mut out, sink) {
+                Ok(()) => return Ending::Done,
+                Err(ending) => return end_at(alloc, sink, ending, number),
+            },
+            Next::Ended => return Ending::Done,
+            Next::Long => return end_at(alloc, sink, Ending::LongLine, number),
+            Next::Failed => return Ending::ReadFailed,
+            Next::Memory => return Ending::Memory,
+        }
+    }
+}
+
+/// Plays a line, and writes its output.
+fn serve<K: Sink>(
+    player: &mut Player,
+    line: &[u8],
+    out: &mut Vec<u8>,
+    sink: &mut K,
+) -> Result<(), Ending>
+    ensures serves { (p : Progress) → IsAt player.old p → MatchResult result
+        (λ _. Serves player.new (K.told sink.old) (K.told sink.new) (played p line.now))
+        (λ ending. Stops ending (K.told sink.old) (K.told sink.new) (played p line.now)) }
+    ensures later { K.faults sink.old ≤ K.faults sink.new }
+    ensures failed { result ≡ Err Ending.WriteFailed → Rose (K.faults sink.old) (K.faults sink.new) }
+{
+    out.clear();
+    match player.play(line, out) {
+        Ok(()) => {}
+        Err(LineFault::NotALine) => return Err(Ending::NotALine),
+        Err(LineFault::Memory) => return Err(Ending::Memory),
+    }
+    match write_all(sink, out.as_slice()) {
+        Ok(()) => Ok(()),
+        Err(_) => Err(Ending::WriteFailed),
+    }
+}
+
+/// Names the line that ended the replay, where it is one to be named.
+fn end_at<K: Sink>(alloc: Global, sink: &mut K, ending: Ending, number: u64) -> Ending
+    ensures ends { EndsAt ending number result (K.told sink.old) (K.told sink.new) (Rose (K.faults sink.old) (K.faults sink.new)) }
+    ensures later { K.faults sink.old ≤ K.faults sink.new }
+    ensures only { (result ≡ ending) ⊎ (result ≡ Ending.Memory) }
+{
+    let named = match ending {
+        Ending::NotALine => error_line(alloc, number),
+        Ending::LongLine => long_line(alloc, number),
+        Ending::Done | Ending::ReadFailed | Ending::WriteFailed | Ending::Memory => return ending,
+    };
+    match named {
+        Ok(line) => write_last(sink, line.as_str()),
+        Err(_) => return Ending::Memory,
+    }
+    ending
+}
+
+/// Writes a last line. That this fails changes no status.
+fn write_last<K: Sink>(sink: &mut K, line: &str)
+    ensures names { WritesLast line.now (K.told sink.old) (K.told sink.new) (Rose (K.faults sink.old) (K.faults sink.new)) }
+    ensures later { K.faults sink.old ≤ K.faults sink.new }
+{
+    let _ = write_all(sink, line.as_bytes());
+}

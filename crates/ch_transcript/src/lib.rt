@@ -1,0 +1,14 @@
+//! Transcripts: what their lines say, and what a replay of them writes.
+//!
+//! A crate of definitions, with no body of the program. `specs/` has them in the order in which they
+//! build on one another: lines, commands, printing, the fold over a transcript, and what a run of a
+//! replay has read and written by how it ended.
+#![tactic(auto)]
+
+mod commands;
+mod ending;
+mod examples;
+
+pub use commands::{Command, Line};
+pub use ending::Ending;
+pub use examples::examples_hold;
