@@ -1,0 +1,10 @@
+pub mod Lists
+pub mod Texts
+pub mod Steps
+pub mod Push
+pub mod Legal
+pub mod Subscriptions
+pub mod Change
+pub mod Marks
+pub mod Occupancy
+pub mod CacheNewcomer

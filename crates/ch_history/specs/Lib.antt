@@ -1,0 +1,16 @@
+pub mod Steps
+pub mod Entries
+pub mod Texts
+pub mod ChannelName
+pub mod Limits
+pub mod Deliveries
+pub mod Subscriptions
+pub mod Presence
+pub mod Cache
+pub mod Frames
+pub mod Webhooks
+pub mod Answers
+pub mod WellFormed
+pub mod Legal
+pub mod Laws
+pub mod ChannelExamples

@@ -1,0 +1,12 @@
+ghost use Rattle.ch_history.specs.Laws.{OccupancyLaw, CacheNewcomerLaw};
+
+/// `channel_occupied` and `channel_vacated` of each channel alternate in every legal history, and
+/// end at whether a socket is subscribed.
+pub fn occupancy_alternates()
+    ensures { OccupancyLaw }
+{}
+
+/// A newcomer of a cache channel is sent exactly one of the latest event and a cache miss.
+pub fn cache_newcomers_are_told()
+    ensures { CacheNewcomerLaw }
+{}
