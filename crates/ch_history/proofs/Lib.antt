@@ -7,4 +7,5 @@ pub mod Subscriptions
 pub mod Change
 pub mod Marks
 pub mod Occupancy
+pub mod Membership
 pub mod CacheNewcomer

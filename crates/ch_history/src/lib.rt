@@ -9,5 +9,5 @@
 mod laws;
 mod rows;
 
-pub use laws::{cache_newcomers_are_told, occupancy_alternates};
+pub use laws::{cache_newcomers_are_told, membership_alternates, occupancy_alternates};
 pub use rows::{Cached, Delivery, Subscription, UserSocket};
