@@ -9,3 +9,6 @@ pub mod Marks
 pub mod Occupancy
 pub mod Membership
 pub mod CacheNewcomer
+pub mod NameExamples
+pub mod ChannelExamples
+pub mod UserExamples

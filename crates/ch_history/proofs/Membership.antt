@@ -11,16 +11,16 @@ use Rattle.ch_history.specs.declared.rows.Subscription.{Subscription}
 use Rattle.ch_history.specs.Entries.{ChanEntry, ChanHistory}
 use Rattle.ch_history.specs.Texts.{has_text, ascending}
 use Rattle.ch_history.specs.ChannelName.{is_presence}
-use Rattle.ch_history.specs.Subscriptions.{subs, on}
+use Rattle.ch_history.specs.Subscriptions.{subs}
 use Rattle.ch_history.specs.Presence.{members_in, has_user, user_in}
 use Rattle.ch_history.specs.Frames.{is_gone}
 use Rattle.ch_history.specs.Webhooks.{is_empty, occupied, added, removed, vacated, parting, hooks, hook_list}
-use Rattle.ch_history.specs.Legal.{Follows, IsLegal}
+use Rattle.ch_history.specs.Legal.{IsLegal}
 use Rattle.ch_history.specs.Laws.{Goes, membership, MembershipAlternates}
 use Rattle.ch_history.proofs.Lists.{list_any-map, list_any-parts, filter_map-filter}
 use Rattle.ch_history.proofs.Texts.{same_text, text_itself, has_text-ascending}
 use Rattle.ch_history.proofs.Marks.{Goes-nowhere, Goes-same, hooks_go}
-use Rattle.ch_history.proofs.Subscriptions.{IsOnly, only_one}
+use Rattle.ch_history.proofs.Subscriptions.{only_one}
 use Rattle.ch_history.proofs.Change.{Change, same, opens, ends, change, concerns, about}
 
 -- One user among the subscriptions of a channel

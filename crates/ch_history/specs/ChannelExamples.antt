@@ -1,5 +1,5 @@
 -- Worked histories of a channel shard. Each value is what the definitions compute.
-use Rattle.std.specs.Prelude.{◌≡◌, ℕ, true, false, List, [], ◌∷◌, ◌++◌, Some, None, refl, codes}
+use Rattle.std.specs.Prelude.{◌≡◌, ℕ, zero, suc, ◌+◌, ◌/◌, ◌%◌, true, false, List, [], ◌∷◌, ◌++◌, Some, None, codes}
 use Rattle.ch_base.specs.Growth.{entry}
 use Rattle.ch_base.specs.declared.channel.Member.{Member}
 use Rattle.ch_base.specs.declared.channel.ChanCall.TheVariants.{Join, Leave, Lost, Publish, Say, Take, TakeHooks, Users}
@@ -8,14 +8,15 @@ use Rattle.ch_base.specs.declared.frame.Frame.{Frame}
 use Rattle.ch_base.specs.declared.frame.Frame.TheVariants as frame
 use Rattle.ch_base.specs.declared.frame.FrameFor.{FrameFor}
 use Rattle.ch_base.specs.declared.webhook.Hook.TheVariants as hook
+use Rattle.ch_history.specs.declared.rows.Subscription.{Subscription}
 use Rattle.ch_history.specs.Entries.{ChanHistory}
 use Rattle.ch_history.specs.Steps.{AllHold}
-use Rattle.ch_history.specs.ChannelName.{Public, Private, Presence, Encrypted, Cache, PrivateCache, PresenceCache, EncryptedCache, kind_of, is_good_name}
 use Rattle.ch_history.specs.Subscriptions.{on}
 use Rattle.ch_history.specs.Presence.{users, user_rows}
 use Rattle.ch_history.specs.Frames.{waiting}
 use Rattle.ch_history.specs.Webhooks.{hook_list, pending}
-use Rattle.ch_history.specs.Answers.{answer_of}
+use Rattle.ch_history.specs.Answers.{answer_of, is_crowded}
+use Rattle.ch_history.specs.Legal.{IsLegal}
 
 -- every entry is answered as it has to be
 abbrev pub AllAnswered : ChanHistory → Type 0
@@ -41,12 +42,9 @@ published_but_to_one =
     two_subscribed ++ entry 2 (Publish a (codes "e") (codes "\"x\"") (Some 1) 0) (answer.Sent 2 0) ∷ []
 
 pub record ExceptedSocket : Type 0 where
-  pub answered : AllAnswered published_but_to_one
+  pub legal : IsLegal published_but_to_one
   pub first : waiting published_but_to_one 0 ≡ gets 1 (frame.Succeeded a) ∷ []
   pub second : waiting published_but_to_one 1 ≡ gets 2 (frame.Succeeded a) ∷ gets 2 (frame.Event a (codes "e") (codes "\"x\"") None) ∷ []
-
-pub excepted_socket : ExceptedSocket
-excepted_socket = record { answered = (refl, (refl, (refl, tt))); first = refl; second = refl }
 
 -- One socket that joins, is lost, and joins again; the webhook events are taken at the end.
 
@@ -62,9 +60,6 @@ pub record JoinedAgain : Type 0 where
   pub answered : AllAnswered joined_again
   pub taken : pending joined_again ≡ []
   pub on_again : on joined_again 1 a ≡ true
-
-pub joined_again_example : JoinedAgain
-joined_again_example = record { answered = (refl, (refl, (refl, (refl, tt)))); taken = refl; on_again = refl }
 
 -- One user with two sockets: added once, removed once; the info is that of the first open subscription.
 
@@ -93,9 +88,6 @@ pub record TwoSockets : Type 0 where
   pub nobody : users no_socket room ≡ []
   pub events : hook_list no_socket ≡ hook.Occupied room ∷ hook.Added room (codes "u") ∷ hook.Removed room (codes "u") ∷ hook.Vacated room ∷ []
 
-pub two_sockets : TwoSockets
-two_sockets = record { answered = (refl, (refl, (refl, (refl, tt)))); first_info = refl; second_info = refl; nobody = refl; events = refl }
-
 -- Another user comes and goes: the users that are there hear of it, and the newcomer is told of all, itself too.
 
 abbrev pub another_user : ChanHistory
@@ -119,9 +111,6 @@ pub record AnotherUser : Type 0 where
       ∷ gets 2 (frame.Event room (codes "client-m") (codes "{}") (Some (codes "v")))
       ∷ gets 2 (frame.Removed room (codes "v"))
       ∷ []
-
-pub another_user_example : AnotherUser
-another_user_example = record { answered = (refl, (refl, (refl, (refl, (refl, (refl, (refl, (refl, tt)))))))); frames = refl }
 
 -- A newcomer of a cache channel, without and with a latest event.
 
@@ -147,9 +136,6 @@ pub record CacheNewcomers : Type 0 where
       ∷ []
   pub events : hook_list cache_newcomers ≡ hook.Occupied kept ∷ hook.Miss kept ∷ hook.Vacated kept ∷ hook.Occupied kept ∷ []
 
-pub cache_newcomers_example : CacheNewcomers
-cache_newcomers_example = record { answered = (refl, (refl, (refl, (refl, tt)))); frames = refl; events = refl }
-
 -- A loss over three channels: they are vacated in ascending order.
 
 abbrev pub three_channels_lost : ChanHistory
@@ -165,41 +151,14 @@ pub record ThreeChannelsLost : Type 0 where
   pub answered : AllAnswered three_channels_lost
   pub events : pending three_channels_lost ≡ hook.Vacated (codes "a") ∷ hook.Vacated (codes "b") ∷ hook.Vacated (codes "c") ∷ []
 
-pub three_channels_lost_example : ThreeChannelsLost
-three_channels_lost_example = record { answered = (refl, (refl, (refl, (refl, (refl, tt))))); events = refl }
+-- A full presence channel: a hundredth user may join, a hundred and first may not, and a socket of one of them may.
 
--- The kinds of some names, and which names are good.
+-- so many subscriptions to the room, each of another user
+abbrev pub crowd : ℕ → List Subscription
+crowd zero = []
+crowd (suc n) = record { channel = room; socket = suc n; owner = 0; member = Some (user ((48 + n / 10) ∷ (48 + n % 10) ∷ []) (codes "null")) } ∷ crowd n
 
-pub record Names_ : Type 0 where
-  pub public : kind_of (codes "chat") ≡ Public
-  pub private : kind_of (codes "private-chat") ≡ Private
-  pub presence : kind_of (codes "presence-chat") ≡ Presence
-  pub encrypted : kind_of (codes "private-encrypted-chat") ≡ Encrypted
-  pub cache : kind_of (codes "cache-chat") ≡ Cache
-  pub private_cache : kind_of (codes "private-cache-chat") ≡ PrivateCache
-  pub presence_cache : kind_of (codes "presence-cache-chat") ≡ PresenceCache
-  pub encrypted_cache : kind_of (codes "private-encrypted-cache-") ≡ EncryptedCache
-  pub other_case : kind_of (codes "Private-chat") ≡ Public
-  pub no_dash : kind_of (codes "presence") ≡ Public
-  pub good : is_good_name (codes "aZ09_-=@,.;") ≡ true
-  pub empty : is_good_name [] ≡ false
-  pub blank : is_good_name (codes "a b") ≡ false
-  pub user_channel : is_good_name (codes "#server-to-user-u") ≡ false
-
-pub names : Names_
-names = record {
-  public = refl;
-  private = refl;
-  presence = refl;
-  encrypted = refl;
-  cache = refl;
-  private_cache = refl;
-  presence_cache = refl;
-  encrypted_cache = refl;
-  other_case = refl;
-  no_dash = refl;
-  good = refl;
-  empty = refl;
-  blank = refl;
-  user_channel = refl;
-}
+pub record FullRoom : Type 0 where
+  pub hundredth : is_crowded room (crowd 99) (Some (user (codes "u") (codes "null"))) ≡ false
+  pub one_more : is_crowded room (crowd 100) (Some (user (codes "u") (codes "null"))) ≡ true
+  pub one_of_them : is_crowded room (crowd 100) (Some (user (codes "07") (codes "null"))) ≡ false

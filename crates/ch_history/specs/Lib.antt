@@ -13,4 +13,12 @@ pub mod Answers
 pub mod WellFormed
 pub mod Legal
 pub mod Laws
+pub mod SignIns
+pub mod UserFrames
+pub mod UserAnswers
+pub mod UserLegal
+pub mod UserLaws
+pub mod Placement
+pub mod NameExamples
 pub mod ChannelExamples
+pub mod UserExamples

@@ -6,8 +6,10 @@
 //! have no body: their contracts are the laws of every legal history, and worked examples.
 #![tactic(auto)]
 
+mod examples;
 mod laws;
 mod rows;
 
+pub use examples::{channel_examples_hold, name_examples_hold, user_examples_hold};
 pub use laws::{cache_newcomers_are_told, membership_alternates, occupancy_alternates};
 pub use rows::{Cached, Delivery, Subscription, UserSocket};
