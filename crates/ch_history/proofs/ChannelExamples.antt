@@ -1,0 +1,38 @@
+-- The worked histories of a channel shard hold, each by computing.
+use Rattle.std.proofs.Common.{[], ◌∷◌, codes, refl, arith}
+use Rattle.ch_base.specs.JsonText.{byte, IsJsonString}
+use Rattle.ch_history.specs.ChannelExamples.{ExceptedSocket, JoinedAgain, TwoSockets, AnotherUser, CacheNewcomers, ThreeChannelsLost, FullRoom}
+
+is_string : IsJsonString (codes "\"x\"")
+is_string = (byte 120 ∷ [], (120 ∷ 34 ∷ [], refl, (refl, (34 ∷ [], refl, refl))))
+
+pub excepted_socket : ExceptedSocket
+excepted_socket = record {
+  legal = (
+    record { formed = ((omega arith, omega arith), omega arith, refl, tt); answered = refl },
+    (
+      record { formed = ((omega arith, omega arith), omega arith, refl, tt); answered = refl },
+      (record { formed = (omega arith, refl, refl, is_string); answered = refl }, tt),
+    ),
+  );
+  first = refl;
+  second = refl;
+}
+
+pub joined_again : JoinedAgain
+joined_again = record { answered = (refl, (refl, (refl, (refl, tt)))); taken = refl; on_again = refl }
+
+pub two_sockets : TwoSockets
+two_sockets = record { answered = (refl, (refl, (refl, (refl, tt)))); first_info = refl; second_info = refl; nobody = refl; events = refl }
+
+pub another_user : AnotherUser
+another_user = record { answered = (refl, (refl, (refl, (refl, (refl, (refl, (refl, (refl, tt)))))))); frames = refl }
+
+pub cache_newcomers : CacheNewcomers
+cache_newcomers = record { answered = (refl, (refl, (refl, (refl, tt)))); frames = refl; events = refl }
+
+pub three_channels_lost : ThreeChannelsLost
+three_channels_lost = record { answered = (refl, (refl, (refl, (refl, (refl, tt))))); events = refl }
+
+pub full_room : FullRoom
+full_room = record { hundredth = refl; one_more = refl; one_of_them = refl }

@@ -1,0 +1,14 @@
+pub mod Lists
+pub mod Texts
+pub mod Steps
+pub mod Push
+pub mod Legal
+pub mod Subscriptions
+pub mod Change
+pub mod Marks
+pub mod Occupancy
+pub mod Membership
+pub mod CacheNewcomer
+pub mod NameExamples
+pub mod ChannelExamples
+pub mod UserExamples

@@ -1,0 +1,13 @@
+use Rattle.ch_history.proofs.ChannelExamples as proof
+use Rattle.ch_history.proofs.examples.channel_examples_hold.Goals as goal
+
+pub returns : goal.returns
+returns c = record {
+  excepted_socket = proof.excepted_socket;
+  joined_again = proof.joined_again;
+  two_sockets = proof.two_sockets;
+  another_user = proof.another_user;
+  cache_newcomers = proof.cache_newcomers;
+  three_channels_lost = proof.three_channels_lost;
+  full_room = proof.full_room;
+}

@@ -1,0 +1,95 @@
+-- Laws of every legal history of a channel shard.
+use Rattle.std.specs.Prelude.{◌≡◌, ℕ, Bool, true, false, not, ◌&&◌, ◌==◌, IsTrue, List, [], ◌∷◌, bytes_eq, Option, Some, None, filter, filter_map, length, if◌then◌else◌}
+use Rattle.ch_base.specs.declared.channel.ChanCall.{ChanCall}
+use Rattle.ch_base.specs.declared.channel.ChanCall.TheVariants.{Join}
+use Rattle.ch_base.specs.declared.frame.Frame.{Frame}
+use Rattle.ch_base.specs.declared.frame.Frame.TheVariants.{Event, Miss}
+use Rattle.ch_base.specs.declared.webhook.Hook.{Hook}
+use Rattle.ch_base.specs.declared.webhook.Hook.TheVariants.{Occupied, Vacated, Added, Removed}
+use Rattle.ch_history.specs.declared.rows.Delivery.{Delivery}
+use Rattle.ch_history.specs.Entries.{ChanEntry, ChanHistory}
+use Rattle.ch_history.specs.Steps.{AllHold}
+use Rattle.ch_history.specs.ChannelName.{is_presence, is_cache}
+use Rattle.ch_history.specs.Subscriptions.{is_joined, subs}
+use Rattle.ch_history.specs.Presence.{has_user}
+use Rattle.ch_history.specs.Frames.{frames}
+use Rattle.ch_history.specs.Webhooks.{is_empty, hook_list}
+use Rattle.ch_history.specs.Legal.{IsLegal}
+
+-- each is other than the one before, the first one than b
+abbrev pub Alternates : Bool → List Bool → Type 0
+Alternates b [] = Unit {0}
+Alternates b (x ∷ xs) = (x ≡ not b) × Alternates x xs
+
+-- the last one, or b where there is none
+abbrev pub last_from : Bool → List Bool → Bool
+last_from b [] = b
+last_from b (x ∷ xs) = last_from x xs
+
+-- the marks go from b to a: they alternate, the first one is other than b, and the last one, or b where there is none, is a
+pub record Goes (b a : Bool) (marks : List Bool) : Type 0 where
+  pub turns : Alternates b marks
+  pub last : last_from b marks ≡ a
+
+-- Occupancy
+
+-- whether a socket is subscribed to the channel
+abbrev pub is_occupied : ChanHistory → List ℕ → Bool
+is_occupied h c = not (is_empty (subs h c))
+
+-- what the event says of the channel: true where it is Occupied, false where it is Vacated
+abbrev pub occupancy : List ℕ → Hook → Option Bool
+occupancy c (Occupied channel) = if bytes_eq channel c then Some true else None
+occupancy c (Vacated channel) = if bytes_eq channel c then Some false else None
+occupancy c _ = None
+
+-- Occupied and Vacated of the channel alternate, beginning with Occupied; the last one is Occupied exactly where a socket is
+-- subscribed, and where there is none no socket is
+abbrev pub OccupancyAlternates : ChanHistory → List ℕ → Type 0
+OccupancyAlternates h c = Goes false (is_occupied h c) (filter_map (occupancy c) (hook_list h))
+
+abbrev pub OccupancyLaw : Type 0
+OccupancyLaw = (h : ChanHistory) → IsLegal h → (c : List ℕ) → OccupancyAlternates h c
+
+-- Membership
+
+-- what the event says of the user on the channel: true where it is Added, false where it is Removed
+abbrev pub membership : List ℕ → List ℕ → Hook → Option Bool
+membership c id (Added channel user_id) = if bytes_eq channel c && bytes_eq user_id id then Some true else None
+membership c id (Removed channel user_id) = if bytes_eq channel c && bytes_eq user_id id then Some false else None
+membership c id _ = None
+
+-- Added and Removed of the user on the channel alternate, beginning with Added; the last one is Added exactly where the user
+-- is there, and where there is none it isn't
+abbrev pub MembershipAlternates : ChanHistory → List ℕ → List ℕ → Type 0
+MembershipAlternates h c id = Goes false (has_user c (subs h c) id) (filter_map (membership c id) (hook_list h))
+
+abbrev pub MembershipLaw : Type 0
+MembershipLaw = (h : ChanHistory) → IsLegal h → (c id : List ℕ) → IsTrue (is_presence c) → MembershipAlternates h c id
+
+-- Cache newcomers
+
+-- whether the frame tells of the channel's latest event: the event itself, or that there is none
+abbrev pub tells_latest : List ℕ → Frame → Bool
+tells_latest c (Event channel event body user_id) = bytes_eq channel c
+tells_latest c (Miss channel) = bytes_eq channel c
+tells_latest c _ = false
+
+-- those of the frames that tell the socket of the channel's latest event
+abbrev pub told : List ℕ → ℕ → List Delivery → List Delivery
+told c socket made = filter (λ d. (d.item.socket == socket) && tells_latest c d.item.frame) made
+
+-- a Join of a cache channel that is answered Joined makes exactly one of Event and Miss for the newcomer
+abbrev pub GreetsBy : ChanHistory → ChanEntry → ChanCall → Type 0
+GreetsBy h e (Join socket c member at) =
+    IsTrue (is_joined e.answer && is_cache c) → length (told c socket (frames h e)) ≡ 1
+GreetsBy h e _ = Unit {0}
+
+abbrev pub Greets : ChanHistory → ChanEntry → Type 0
+Greets h e = GreetsBy h e e.call
+
+abbrev pub NewcomersGreeted : ChanHistory → Type 0
+NewcomersGreeted h = AllHold Greets [] h
+
+abbrev pub CacheNewcomerLaw : Type 0
+CacheNewcomerLaw = (h : ChanHistory) → IsLegal h → NewcomersGreeted h

@@ -1,0 +1,66 @@
+-- On which shard a channel or a user has its place, and which calls belong to a shard. The hash is FNV-1a of 64 bits (the
+-- FNV Non-Cryptographic Hash Algorithm, IETF draft-eastlake-fnv, section 2).
+use Rattle.std.specs.Prelude.{◌≡◌, ℕ, ◌*◌, ◌%◌, ◌^◌, List, [], ◌∷◌, Option, Some, None, MatchOption, All, bit_xor}
+use Rattle.ch_base.specs.declared.channel.ChanCall.{ChanCall}
+use Rattle.ch_base.specs.declared.channel.ChanCall.TheVariants as chan
+use Rattle.ch_base.specs.declared.user.UserCall.{UserCall}
+use Rattle.ch_base.specs.declared.user.UserCall.TheVariants as user
+use Rattle.ch_history.specs.Entries.{ChanHistory, UserHistory}
+use Rattle.ch_history.specs.Legal.{IsLegal}
+use Rattle.ch_history.specs.UserLegal.{IsUserLegal}
+
+abbrev pub fnv_offset : ℕ
+fnv_offset = 14695981039346656037
+
+abbrev pub fnv_prime : ℕ
+fnv_prime = 1099511628211
+
+-- the hash with one more byte
+abbrev pub fnv_next : ℕ → ℕ → ℕ
+fnv_next hash byte = bit_xor hash byte * fnv_prime % 2 ^ 64
+
+-- the hash of the bytes after those of which this is the hash
+abbrev pub fnv_from : ℕ → List ℕ → ℕ
+fnv_from hash [] = hash
+fnv_from hash (x ∷ xs) = fnv_from (fnv_next hash x) xs
+
+-- the shard of a channel or a user, of so many shards
+abbrev pub shard_of : List ℕ → ℕ → ℕ
+shard_of name shards = fnv_from fnv_offset name % shards
+
+-- the channel that a call names
+abbrev pub named_channel : ChanCall → Option (List ℕ)
+named_channel (chan.Join socket channel member at) = Some channel
+named_channel (chan.Leave socket channel at) = Some channel
+named_channel (chan.Publish channel event body except at) = Some channel
+named_channel (chan.Say socket channel event body at) = Some channel
+named_channel (chan.Look channel at) = Some channel
+named_channel (chan.Users channel) = Some channel
+named_channel _ = None
+
+-- the user that a call names
+abbrev pub named_user : UserCall → Option (List ℕ)
+named_user (user.SignIn socket id at) = Some id
+named_user (user.Watch socket id at) = Some id
+named_user (user.Terminate id at) = Some id
+named_user (user.SendTo id event body at) = Some id
+named_user _ = None
+
+-- whether a call that names this belongs to the shard k of n: its place is k, or it names none
+abbrev pub HasPlace : ℕ × ℕ → Option (List ℕ) → Type 0
+HasPlace at name = MatchOption name (Unit {0}) (λ x. shard_of x at.1 ≡ at.0)
+
+abbrev pub BelongsTo : ℕ × ℕ → ChanCall → Type 0
+BelongsTo at call = HasPlace at (named_channel call)
+
+abbrev pub UserBelongsTo : ℕ × ℕ → UserCall → Type 0
+UserBelongsTo at call = HasPlace at (named_user call)
+
+-- a legal history whose every call belongs to the shard
+pub record IsLegalAt (at : ℕ × ℕ) (h : ChanHistory) : Type 0 where
+  pub legal : IsLegal h
+  pub placed : All (λ e. BelongsTo at e.call) h
+
+pub record IsUserLegalAt (at : ℕ × ℕ) (h : UserHistory) : Type 0 where
+  pub legal : IsUserLegal h
+  pub placed : All (λ e. UserBelongsTo at e.call) h

@@ -1,0 +1,18 @@
+ghost use Rattle.ch_history.specs.Laws.{OccupancyLaw, MembershipLaw, CacheNewcomerLaw};
+
+/// `channel_occupied` and `channel_vacated` of each channel alternate in every legal history, and
+/// end at whether a socket is subscribed.
+pub fn occupancy_alternates()
+    ensures { OccupancyLaw }
+{}
+
+/// `member_added` and `member_removed` of each user of each presence channel alternate in every
+/// legal history, and end at whether the user is there.
+pub fn membership_alternates()
+    ensures { MembershipLaw }
+{}
+
+/// A newcomer of a cache channel is sent exactly one of the latest event and a cache miss.
+pub fn cache_newcomers_are_told()
+    ensures { CacheNewcomerLaw }
+{}

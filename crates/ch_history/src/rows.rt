@@ -1,0 +1,33 @@
+use ch_base::{FrameFor, Member, Text};
+
+/// An open subscription of a socket to a channel. The owner is the caller that made it, and the
+/// member is there exactly on a presence channel.
+#[derive(Debug, PartialEq, Eq, Drop)]
+pub struct Subscription {
+    pub channel: Text,
+    pub socket: u64,
+    pub owner: u64,
+    pub member: Option<Member>,
+}
+
+/// The latest event of a cache channel; `body` is a JSON string.
+#[derive(Debug, PartialEq, Eq, Drop)]
+pub struct Cached {
+    pub event: Text,
+    pub body: Text,
+}
+
+/// A socket that is signed in as a user or watches one. The owner is the caller that made it so.
+#[derive(Debug, PartialEq, Eq, Drop)]
+pub struct UserSocket {
+    pub user: Text,
+    pub socket: u64,
+    pub owner: u64,
+}
+
+/// A frame with its socket, and the caller that hands it to that socket.
+#[derive(Debug, PartialEq, Eq, Drop)]
+pub struct Delivery {
+    pub owner: u64,
+    pub item: FrameFor,
+}
