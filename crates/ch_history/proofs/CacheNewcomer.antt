@@ -19,44 +19,43 @@ use Rattle.ch_history.specs.Legal.{IsLegal}
 use Rattle.ch_history.specs.Laws.{tells_latest, told, Greets, GreetsBy, NewcomersGreeted}
 use Rattle.ch_history.proofs.Lists.{both}
 use Rattle.ch_history.proofs.Steps.{AllHold-all}
-use Rattle.ch_history.proofs.Texts.{text_itself}
 
 itself : (n : ℕ) → (n == n) ≡ true
 itself n = grind (arith, nat_tests)
 
 -- a frame of another sort in front tells nothing
-told-other : (c : List ℕ) (socket : ℕ) (d : Delivery) (ds : List Delivery) → tells_latest c d.item.frame ≡ false → told c socket (d ∷ ds) ≡ told c socket ds
-told-other c socket d ds silent =
-    elim (d.item.socket == socket) as (λ b. cond (b && tells_latest c d.item.frame) (d ∷ told c socket ds) (told c socket ds) ≡ told c socket ds) [
-      | true ↦ ap (λ x. cond x (d ∷ told c socket ds) (told c socket ds)) silent
+told-other : (socket : ℕ) (d : Delivery) (ds : List Delivery) → tells_latest d.item.frame ≡ false → told socket (d ∷ ds) ≡ told socket ds
+told-other socket d ds silent =
+    elim (d.item.socket == socket) as (λ b. cond (b && tells_latest d.item.frame) (d ∷ told socket ds) (told socket ds) ≡ told socket ds) [
+      | true ↦ ap (λ x. cond x (d ∷ told socket ds) (told socket ds)) silent
       | false ↦ refl
     ]
 
-told-arrival : (c : List ℕ) (socket : ℕ) (m : Member) (xs : List Subscription) → told c socket (map (to (Added c m)) xs) ≡ []
+told-arrival : (c : List ℕ) (socket : ℕ) (m : Member) (xs : List Subscription) → told socket (map (to (Added c m)) xs) ≡ []
 told-arrival c socket m [] = refl
-told-arrival c socket m (x ∷ xs) = told-other c socket (to (Added c m) x) (map (to (Added c m)) xs) refl ∙ told-arrival c socket m xs
+told-arrival c socket m (x ∷ xs) = told-other socket (to (Added c m) x) (map (to (Added c m)) xs) refl ∙ told-arrival c socket m xs
 
-told-arrivals : (c : List ℕ) (socket : ℕ) (xs : List Subscription) (m : Option Member) → told c socket (arrival c xs m) ≡ []
+told-arrivals : (c : List ℕ) (socket : ℕ) (xs : List Subscription) (m : Option Member) → told socket (arrival c xs m) ≡ []
 told-arrivals c socket xs None = refl
 told-arrivals c socket xs (Some m) =
-    elim (has_user c xs m.user_id) as (λ b. told c socket (cond b [] (map (to (Added c m)) xs)) ≡ []) [
+    elim (has_user c xs m.user_id) as (λ b. told socket (cond b [] (map (to (Added c m)) xs)) ≡ []) [
       | true ↦ refl
       | false ↦ told-arrival c socket m xs
     ]
 
-tells : (c : List ℕ) (kept : Option Cached) → tells_latest c (latest_frame c kept) ≡ true
-tells c None = text_itself c
-tells c (Some x) = text_itself c
+tells : (c : List ℕ) (kept : Option Cached) → tells_latest (latest_frame c kept) ≡ true
+tells c None = refl
+tells c (Some x) = refl
 
-first_silent : (c : List ℕ) (b : Bool) (rows : List Member) → tells_latest c (cond b (Present c rows) (Succeeded c)) ≡ false
+first_silent : (c : List ℕ) (b : Bool) (rows : List Member) → tells_latest (cond b (Present c rows) (Succeeded c)) ≡ false
 first_silent c true rows = refl
 first_silent c false rows = refl
 
-told-welcome : (c : List ℕ) (after : List Subscription) (kept : Option Cached) (s : Subscription) → is_cache c ≡ true → told c s.socket (welcome c after kept s) ≡ to (latest_frame c kept) s ∷ []
+told-welcome : (c : List ℕ) (after : List Subscription) (kept : Option Cached) (s : Subscription) → is_cache c ≡ true → told s.socket (welcome c after kept s) ≡ to (latest_frame c kept) s ∷ []
 told-welcome c after kept s kind =
     let last : List Delivery = to (latest_frame c kept) s ∷ [] in
-    told-other c s.socket (to (cond (is_presence c) (Present c (rows_in c after)) (Succeeded c)) s) (cond (is_cache c) last []) (first_silent c (is_presence c) (rows_in c after))
-    ∙ ap (λ b. told c s.socket (cond b last [])) kind
+    told-other s.socket (to (cond (is_presence c) (Present c (rows_in c after)) (Succeeded c)) s) (cond (is_cache c) last []) (first_silent c (is_presence c) (rows_in c after))
+    ∙ ap (λ b. told s.socket (cond b last [])) kind
     ∙ ap₂ (λ a b. cond (a && b) last []) (itself s.socket) (tells c kept)
 
 greets : (h : ChanHistory) (e : ChanEntry) (call : ChanCall) → e.call ≡ call → GreetsBy h e call
@@ -67,8 +66,8 @@ greets h e (Join socket c m at) is = λ joined.
     let made : frames h e ≡ welcome c (subs k c) (latest h c) s ++ arrival c (subs h c) m =
     ap (frames_by (subscriptions h) (subscriptions k) (latest h) e.caller e.answer) is
     ∙ ap (λ b. cond b (welcome c (subs k c) (latest h c) s ++ arrival c (subs h c) m) []) kind.0 in
-    ap (λ ds. length (told c socket ds)) made
-    ∙ ap length (filter-append (λ d. (d.item.socket == socket) && tells_latest c d.item.frame) (welcome c (subs k c) (latest h c) s) (arrival c (subs h c) m)
+    ap (λ ds. length (told socket ds)) made
+    ∙ ap length (filter-append (λ d. (d.item.socket == socket) && tells_latest d.item.frame) (welcome c (subs k c) (latest h c) s) (arrival c (subs h c) m)
     ∙ ap₂ ◌++◌ (told-welcome c (subs k c) (latest h c) s kind.1) (told-arrivals c socket (subs h c) m))
 greets h e (Leave socket c at) is = tt
 greets h e (Lost socket at) is = tt

@@ -19,7 +19,8 @@ use Rattle.ch_history.specs.Subscriptions.{is_joined, opened, settles, subscript
 use Rattle.ch_history.specs.Presence.{has_user, user_in}
 use Rattle.ch_history.specs.Cache.{latest}
 use Rattle.ch_history.specs.Frames.{is_gone, is_said}
-use Rattle.ch_history.specs.Webhooks.{is_empty, occupied, added, missed, removed, vacated, parting, hooks}
+use Rattle.ch_history.specs.Webhooks.{occupied, added, missed, removed, vacated, parting, hooks}
+use Rattle.ch_history.specs.Rows.{is_empty}
 use Rattle.ch_history.specs.Answers.{answer_of, is_crowded}
 use Rattle.ch_history.proofs.Lists.{list_any-false, list_any-same, filter-none, filter-flat_map, filter-if, filter-unless}
 use Rattle.ch_history.proofs.Texts.{same_text, flat_map-ascending}

@@ -9,6 +9,9 @@ pub mod Marks
 pub mod Occupancy
 pub mod Membership
 pub mod CacheNewcomer
+pub mod UserPush
+pub mod UserLegal
+pub mod Placement
 pub mod NameExamples
 pub mod ChannelExamples
 pub mod UserExamples

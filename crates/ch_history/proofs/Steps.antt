@@ -2,7 +2,8 @@
 use Rattle.std.proofs.Common.{◌≡◌, Bool, true, false, not, ◌||◌, cond, List, [], ◌∷◌, ◌++◌, Option, Some, None, filter, option_to_list, refl, ap, sym, ◌∙◌, subst, append_assoc, append-nil}
 use Rattle.std.specs.List.{list_any, cons_option}
 use Rattle.std.proofs.lemmas.List.Folds.{list_any-append}
-use Rattle.ch_history.specs.Steps.{unsettled, open_rows, rows_after, gathered, gathered_from, AllHold}
+use Rattle.ch_history.specs.Steps.{gathered, gathered_from, AllHold}
+use Rattle.ch_history.specs.Rows.{unsettled, open_rows, rows_after}
 
 -- Rows
 

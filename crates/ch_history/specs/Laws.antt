@@ -13,7 +13,8 @@ use Rattle.ch_history.specs.ChannelName.{is_presence, is_cache}
 use Rattle.ch_history.specs.Subscriptions.{is_joined, subs}
 use Rattle.ch_history.specs.Presence.{has_user}
 use Rattle.ch_history.specs.Frames.{frames}
-use Rattle.ch_history.specs.Webhooks.{is_empty, hook_list}
+use Rattle.ch_history.specs.Webhooks.{hook_list}
+use Rattle.ch_history.specs.Rows.{is_empty}
 use Rattle.ch_history.specs.Legal.{IsLegal}
 
 -- each is other than the one before, the first one than b
@@ -69,20 +70,20 @@ MembershipLaw = (h : ChanHistory) → IsLegal h → (c id : List ℕ) → IsTrue
 
 -- Cache newcomers
 
--- whether the frame tells of the channel's latest event: the event itself, or that there is none
-abbrev pub tells_latest : List ℕ → Frame → Bool
-tells_latest c (Event channel event body user_id) = bytes_eq channel c
-tells_latest c (Miss channel) = bytes_eq channel c
-tells_latest c _ = false
+-- whether the frame is an event or a cache miss
+abbrev pub tells_latest : Frame → Bool
+tells_latest (Event channel event body user_id) = true
+tells_latest (Miss channel) = true
+tells_latest _ = false
 
--- those of the frames that tell the socket of the channel's latest event
-abbrev pub told : List ℕ → ℕ → List Delivery → List Delivery
-told c socket made = filter (λ d. (d.item.socket == socket) && tells_latest c d.item.frame) made
+-- the events and cache misses among the frames that are for the socket
+abbrev pub told : ℕ → List Delivery → List Delivery
+told socket made = filter (λ d. (d.item.socket == socket) && tells_latest d.item.frame) made
 
 -- a Join of a cache channel that is answered Joined makes exactly one of Event and Miss for the newcomer
 abbrev pub GreetsBy : ChanHistory → ChanEntry → ChanCall → Type 0
 GreetsBy h e (Join socket c member at) =
-    IsTrue (is_joined e.answer && is_cache c) → length (told c socket (frames h e)) ≡ 1
+    IsTrue (is_joined e.answer && is_cache c) → length (told socket (frames h e)) ≡ 1
 GreetsBy h e _ = Unit {0}
 
 abbrev pub Greets : ChanHistory → ChanEntry → Type 0

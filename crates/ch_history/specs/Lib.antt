@@ -1,4 +1,5 @@
 pub mod Steps
+pub mod Rows
 pub mod Entries
 pub mod Texts
 pub mod ChannelName

@@ -46,21 +46,25 @@ named_user (user.Terminate id at) = Some id
 named_user (user.SendTo id event body at) = Some id
 named_user _ = None
 
--- whether a call that names this belongs to the shard k of n: its place is k, or it names none
+-- what a call names has its place on the shard, which is a number and the number of shards; a call that names nothing belongs
+-- to every shard
 abbrev pub HasPlace : ℕ × ℕ → Option (List ℕ) → Type 0
-HasPlace at name = MatchOption name (Unit {0}) (λ x. shard_of x at.1 ≡ at.0)
+HasPlace shard name = MatchOption name (Unit {0}) (λ x. shard_of x shard.1 ≡ shard.0)
 
+-- the call belongs to the channel shard
 abbrev pub BelongsTo : ℕ × ℕ → ChanCall → Type 0
-BelongsTo at call = HasPlace at (named_channel call)
+BelongsTo shard call = HasPlace shard (named_channel call)
 
+-- the call belongs to the user shard
 abbrev pub UserBelongsTo : ℕ × ℕ → UserCall → Type 0
-UserBelongsTo at call = HasPlace at (named_user call)
+UserBelongsTo shard call = HasPlace shard (named_user call)
 
--- a legal history whose every call belongs to the shard
-pub record IsLegalAt (at : ℕ × ℕ) (h : ChanHistory) : Type 0 where
+-- a legal history of which every call belongs to the channel shard
+pub record IsLegalAt (shard : ℕ × ℕ) (h : ChanHistory) : Type 0 where
   pub legal : IsLegal h
-  pub placed : All (λ e. BelongsTo at e.call) h
+  pub placed : All (λ e. BelongsTo shard e.call) h
 
-pub record IsUserLegalAt (at : ℕ × ℕ) (h : UserHistory) : Type 0 where
+-- a legal history of which every call belongs to the user shard
+pub record IsUserLegalAt (shard : ℕ × ℕ) (h : UserHistory) : Type 0 where
   pub legal : IsUserLegal h
-  pub placed : All (λ e. UserBelongsTo at e.call) h
+  pub placed : All (λ e. UserBelongsTo shard e.call) h

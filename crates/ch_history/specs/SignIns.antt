@@ -8,9 +8,8 @@ use Rattle.ch_base.specs.declared.user.UserAnswer.{UserAnswer}
 use Rattle.ch_base.specs.declared.user.UserAnswer.TheVariants.{SignedIn, Watching}
 use Rattle.ch_history.specs.declared.rows.UserSocket.{UserSocket}
 use Rattle.ch_history.specs.Entries.{UserEntry, UserHistory}
-use Rattle.ch_history.specs.Steps.{open_rows, rows_after}
+use Rattle.ch_history.specs.Rows.{open_rows, rows_after, is_empty}
 use Rattle.ch_history.specs.Texts.{ascending}
-use Rattle.ch_history.specs.Webhooks.{is_empty}
 
 abbrev pub is_signed_in : UserAnswer → Bool
 is_signed_in SignedIn = true

@@ -22,24 +22,21 @@ to_socket frame r = delivery r.owner r.socket frame
 abbrev pub user_channel : List ℕ → List ℕ
 user_channel user = codes "#server-to-user-" ++ user
 
--- where no socket is signed in as the user yet, each watcher hears that it is online
-abbrev pub comes_online : List ℕ → List UserSocket → List UserSocket → List Delivery
-comes_online user signs seen = if has_any signs user then [] else map (to_socket (frame.Watch true user)) (of_user seen user)
-
--- where no socket is signed in as the user any more, each watcher hears that it is offline
-abbrev pub goes_offline : List UserSocket → List UserSocket → List ℕ → List Delivery
-goes_offline signs seen user = if has_any signs user then [] else map (to_socket (frame.Watch false user)) (of_user seen user)
+-- where no socket of these sign-ins is the user's, each watcher of the user is told that it is online, or offline
+abbrev pub tell_watchers : Bool → List UserSocket → List UserSocket → List ℕ → List Delivery
+tell_watchers is_online signs seen user =
+    if has_any signs user then [] else map (to_socket (frame.Watch is_online user)) (of_user seen user)
 
 -- the frames of a call; signs and seen: the sign-ins and the watches before it, and after it
 abbrev pub user_frames_by : List UserSocket → List UserSocket → List UserSocket → List UserSocket → ℕ → UserAnswer → UserCall → List Delivery
 user_frames_by signs signs_after seen seen_after caller answer (SignIn socket user at) =
-    if is_signed_in answer then comes_online user signs seen else []
+    if is_signed_in answer then tell_watchers true signs seen user else []
 user_frames_by signs signs_after seen seen_after caller answer (Watch socket watched at) =
     if is_watching answer
     then (if has_any signs watched then delivery caller socket (frame.Watch true watched) ∷ [] else [])
     else []
 user_frames_by signs signs_after seen seen_after caller answer (Lost socket at) =
-    flat_map (goes_offline signs_after seen_after) (users_of signs socket)
+    flat_map (tell_watchers false signs_after seen_after) (users_of signs socket)
 user_frames_by signs signs_after seen seen_after caller answer (Terminate user at) =
     map (to_socket frame.Kill) (of_user signs user)
 user_frames_by signs signs_after seen seen_after caller answer (SendTo user event body at) =

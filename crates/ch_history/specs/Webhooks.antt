@@ -11,15 +11,12 @@ use Rattle.ch_history.specs.declared.rows.Subscription.{Subscription}
 use Rattle.ch_history.specs.declared.rows.Cached.{Cached}
 use Rattle.ch_history.specs.Entries.{ChanEntry, ChanHistory}
 use Rattle.ch_history.specs.Steps.{gathered}
+use Rattle.ch_history.specs.Rows.{is_empty}
 use Rattle.ch_history.specs.ChannelName.{is_cache}
 use Rattle.ch_history.specs.Subscriptions.{is_joined, subscriptions, on_channel, channels_in}
 use Rattle.ch_history.specs.Presence.{has_user, user_in}
 use Rattle.ch_history.specs.Cache.{latest}
 use Rattle.ch_history.specs.Frames.{is_left, is_said, is_gone}
-
-abbrev pub is_empty : {A : Type 0} → List A → Bool
-is_empty [] = true
-is_empty (x ∷ xs) = false
 
 -- Occupied where c had no subscription
 abbrev pub occupied : List ℕ → List Subscription → List Hook
