@@ -20,11 +20,12 @@ use Rattle.ch_history.specs.Presence.{has_user, user_in}
 use Rattle.ch_history.specs.Cache.{latest}
 use Rattle.ch_history.specs.Frames.{is_gone, is_said}
 use Rattle.ch_history.specs.Webhooks.{occupied, added, missed, removed, vacated, parting, hooks}
-use Rattle.ch_history.specs.Rows.{is_empty}
+use Rattle.ch_history.specs.OpenRows.{is_empty}
 use Rattle.ch_history.specs.Answers.{answer_of, is_crowded}
 use Rattle.ch_history.proofs.Lists.{list_any-false, list_any-same, filter-none, filter-flat_map, filter-if, filter-unless}
 use Rattle.ch_history.proofs.Texts.{same_text, flat_map-ascending}
-use Rattle.ch_history.proofs.Subscriptions.{subs-push, subs-left, subs-same, opens_nothing, not_on, other_channel, own_channel, in_channels}
+use Rattle.ch_history.proofs.OpenRows.{opens_nothing, own_name, in_names, none_settled}
+use Rattle.ch_history.proofs.Subscriptions.{socket_of, channel_of, subs-push, subs-left, subs-same, not_on, other_channel}
 
 -- whether the event says that the channel c is occupied or vacated, or which users it has
 abbrev pub concerns : List ℕ → Hook → Bool
@@ -74,7 +75,7 @@ about-missed c d kept =
 -- a call that opens no subscription and settles none
 quiet : (h : ChanHistory) (e : ChanEntry) (c : List ℕ) → opened e ≡ None → ((s : Subscription) → settles s e ≡ false) → about c (hooks h e) ≡ [] → Change h e c
 quiet h e c nothing none silent =
-    same (subs-same h e c nothing (list_any-same (λ s. settles s e) (λ s. false) (subs h c) none ∙ list_any-false (subs h c))) silent
+    same (subs-same h e c nothing (none_settled settles (subs h c) e none)) silent
 
 joined : (h : ChanHistory) (w socket : ℕ) (d : List ℕ) (m : Option Member) (at : ℕ) (c : List ℕ) → on h socket d ≡ false → Change h (entry w (Join socket d m at) Joined) c
 joined h w socket d m at c off =
@@ -100,7 +101,7 @@ left h w socket d at c there =
       | true ↦ (λ is.
           let here : d ≡ c = same_text d c is in
           ends socket (ap (on h socket) (sym here) ∙ there)
-          (subs-left h e c refl ∙ ap (λ x. filter (λ s. not ((s.socket == socket) && bytes_eq s.channel x)) (subs h c)) here ∙ own_channel socket c (subscriptions h))
+          (subs-left h e c refl ∙ ap (λ x. filter (λ s. not ((s.socket == socket) && bytes_eq s.channel x)) (subs h c)) here ∙ own_name socket_of channel_of socket c (subscriptions h))
           (ap (λ x. about c (parting x (subs h x) (subs k x) socket)) here))
       | false ↦ (λ differs. same (other_channel h e socket d c refl (λ s. refl) differs) (about-parting c d (subs h d) (subs k d) socket differs))
     ]) refl
@@ -114,7 +115,7 @@ lost h w socket at a c =
     let made : about c (hooks h e) ≡ cond (on h socket c) (about c (part c)) [] =
     filter-flat_map (concerns c) part (channels_of h socket)
     ∙ flat_map-ascending (λ d. about c (part d)) c (λ d differs. about-parting c d (subs h d) (subs k d) socket differs) its
-    ∙ ap (λ b. cond b (about c (part c)) []) (in_channels (subscriptions h) socket c) in
+    ∙ ap (λ b. cond b (about c (part c)) []) (in_names socket_of channel_of (subscriptions h) socket c) in
     (elim (on h socket c) as (λ b. on h socket c ≡ b → about c (hooks h e) ≡ cond b (about c (part c)) [] → Change h e c) [
       | true ↦ (λ there made. ends socket there (subs-left h e c (opens_nothing (is_joined a))) made)
       | false ↦ (λ off made. same (subs-same h e c (opens_nothing (is_joined a)) off) made)

@@ -1,6 +1,7 @@
 pub mod Lists
 pub mod Texts
 pub mod Steps
+pub mod OpenRows
 pub mod Push
 pub mod Legal
 pub mod Subscriptions

@@ -15,7 +15,7 @@ use Rattle.ch_history.specs.Subscriptions.{subs}
 use Rattle.ch_history.specs.Presence.{members_in, has_user, user_in}
 use Rattle.ch_history.specs.Frames.{is_gone}
 use Rattle.ch_history.specs.Webhooks.{occupied, added, removed, vacated, parting, hooks, hook_list}
-use Rattle.ch_history.specs.Rows.{is_empty}
+use Rattle.ch_history.specs.OpenRows.{is_empty}
 use Rattle.ch_history.specs.Legal.{IsLegal}
 use Rattle.ch_history.specs.Laws.{Goes, membership, MembershipAlternates}
 use Rattle.ch_history.proofs.Lists.{list_any-map, list_any-parts, filter_map-filter}

@@ -11,7 +11,7 @@ use Rattle.ch_history.specs.Subscriptions.{subs}
 use Rattle.ch_history.specs.Presence.{has_user, user_in}
 use Rattle.ch_history.specs.Frames.{is_gone}
 use Rattle.ch_history.specs.Webhooks.{occupied, added, removed, vacated, parting, hooks}
-use Rattle.ch_history.specs.Rows.{is_empty}
+use Rattle.ch_history.specs.OpenRows.{is_empty}
 use Rattle.ch_history.specs.Legal.{IsLegal}
 use Rattle.ch_history.specs.Laws.{Goes, is_occupied, occupancy, OccupancyAlternates}
 use Rattle.ch_history.proofs.Lists.{filter_map-filter, not_empty, is_empty-push}

@@ -3,7 +3,7 @@ use Rattle.std.proofs.Common.{◌≡◌, Bool, true, false, not, ◌||◌, cond,
 use Rattle.std.specs.List.{list_any, cons_option}
 use Rattle.std.proofs.lemmas.List.Folds.{list_any-append}
 use Rattle.ch_history.specs.Steps.{gathered, gathered_from, AllHold}
-use Rattle.ch_history.specs.Rows.{unsettled, open_rows, rows_after}
+use Rattle.ch_history.specs.OpenRows.{unsettled, open_rows, rows_after}
 
 -- Rows
 

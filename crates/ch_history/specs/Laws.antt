@@ -14,7 +14,7 @@ use Rattle.ch_history.specs.Subscriptions.{is_joined, subs}
 use Rattle.ch_history.specs.Presence.{has_user}
 use Rattle.ch_history.specs.Frames.{frames}
 use Rattle.ch_history.specs.Webhooks.{hook_list}
-use Rattle.ch_history.specs.Rows.{is_empty}
+use Rattle.ch_history.specs.OpenRows.{is_empty}
 use Rattle.ch_history.specs.Legal.{IsLegal}
 
 -- each is other than the one before, the first one than b

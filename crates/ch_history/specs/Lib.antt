@@ -1,5 +1,5 @@
 pub mod Steps
-pub mod Rows
+pub mod OpenRows
 pub mod Entries
 pub mod Texts
 pub mod ChannelName

@@ -8,7 +8,7 @@ use Rattle.ch_base.specs.declared.user.UserAnswer.{UserAnswer}
 use Rattle.ch_base.specs.declared.user.UserAnswer.TheVariants.{SignedIn, Watching}
 use Rattle.ch_history.specs.declared.rows.UserSocket.{UserSocket}
 use Rattle.ch_history.specs.Entries.{UserEntry, UserHistory}
-use Rattle.ch_history.specs.Rows.{open_rows, rows_after, is_empty}
+use Rattle.ch_history.specs.OpenRows.{open_rows, rows_after, is_empty}
 use Rattle.ch_history.specs.Texts.{ascending}
 
 abbrev pub is_signed_in : UserAnswer → Bool

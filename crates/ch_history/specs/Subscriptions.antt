@@ -7,7 +7,7 @@ use Rattle.ch_base.specs.declared.channel.ChanAnswer.{ChanAnswer}
 use Rattle.ch_base.specs.declared.channel.ChanAnswer.TheVariants.{Joined}
 use Rattle.ch_history.specs.declared.rows.Subscription.{Subscription}
 use Rattle.ch_history.specs.Entries.{ChanEntry, ChanHistory}
-use Rattle.ch_history.specs.Rows.{open_rows, rows_after}
+use Rattle.ch_history.specs.OpenRows.{open_rows, rows_after}
 use Rattle.ch_history.specs.Texts.{ascending}
 
 abbrev pub is_joined : ChanAnswer → Bool

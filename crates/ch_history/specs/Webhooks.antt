@@ -11,7 +11,7 @@ use Rattle.ch_history.specs.declared.rows.Subscription.{Subscription}
 use Rattle.ch_history.specs.declared.rows.Cached.{Cached}
 use Rattle.ch_history.specs.Entries.{ChanEntry, ChanHistory}
 use Rattle.ch_history.specs.Steps.{gathered}
-use Rattle.ch_history.specs.Rows.{is_empty}
+use Rattle.ch_history.specs.OpenRows.{is_empty}
 use Rattle.ch_history.specs.ChannelName.{is_cache}
 use Rattle.ch_history.specs.Subscriptions.{is_joined, subscriptions, on_channel, channels_in}
 use Rattle.ch_history.specs.Presence.{has_user, user_in}
