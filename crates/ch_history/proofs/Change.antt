@@ -22,7 +22,7 @@ use Rattle.ch_history.specs.Frames.{is_gone, is_said}
 use Rattle.ch_history.specs.Webhooks.{occupied, added, missed, removed, vacated, parting, hooks}
 use Rattle.ch_history.specs.OpenRows.{is_empty}
 use Rattle.ch_history.specs.Answers.{answer_of, is_crowded}
-use Rattle.ch_history.proofs.Lists.{list_any-false, list_any-same, filter-none, filter-flat_map, filter-if, filter-unless}
+use Rattle.ch_history.proofs.Lists.{filter-none, filter-flat_map, filter-if, filter-unless}
 use Rattle.ch_history.proofs.Texts.{same_text, flat_map-ascending}
 use Rattle.ch_history.proofs.OpenRows.{opens_nothing, own_name, in_names, none_settled}
 use Rattle.ch_history.proofs.Subscriptions.{socket_of, channel_of, subs-push, subs-left, subs-same, not_on, other_channel}

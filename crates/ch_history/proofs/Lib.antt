@@ -12,6 +12,8 @@ pub mod Membership
 pub mod CacheNewcomer
 pub mod UserPush
 pub mod UserLegal
+pub mod SignIns
+pub mod Watchers
 pub mod Placement
 pub mod NameExamples
 pub mod ChannelExamples

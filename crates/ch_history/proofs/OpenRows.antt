@@ -47,11 +47,11 @@ module _ {R : Type 0} (number : R → ℕ) (name : R → List ℕ) where
       let p : R → Bool = λ r. not ((number r == n) && bytes_eq (name r) c) in
       let q : R → Bool = λ r. not (number r == n) in
       (elim (bytes_eq (name x) c) as (λ b. bytes_eq (name x) c ≡ b → filter p (cond b (x ∷ named xs c) (named xs c)) ≡ filter q (cond b (x ∷ named xs c) (named xs c))) [
-          true ↦ (λ here.
+        | true ↦ (λ here.
             let test : p x ≡ q x = ap not (ap (λ b. (number x == n) && b) here ∙ and-true (number x == n)) in
             ap (λ b. cond b (x ∷ filter p (named xs c)) (filter p (named xs c))) test ∙ ap (λ ys. cond (q x) (x ∷ ys) ys) (own_name n c xs))
         | false ↦ (λ elsewhere. own_name n c xs)
-        ]) refl
+      ]) refl
 
   -- the names of a number are those among whose rows it is
   pub in_names : (xs : List R) (n : ℕ) (c : List ℕ) → has_text (map name (filter (λ r. number r == n) xs)) c ≡ list_any (λ r. number r == n) (named xs c)
@@ -78,21 +78,21 @@ module _ {R : Type 0} (number : R → ℕ) (name : R → List ℕ) where
   apart : (s t : R) → same_place t s ≡ false → same_place s t ≡ false
   apart s t is =
       (elim (same_place s t) as (λ b. same_place s t ≡ b → b ≡ false) [
-          true ↦ (λ h.
+        | true ↦ (λ h.
             let parts : ((number t == number s) ≡ true) × (bytes_eq (name t) (name s) ≡ true) = both (number t == number s) (bytes_eq (name t) (name s)) h in
             let numbers : (number s == number t) ≡ true = grind (arith, nat_tests, parts.0) in
             let names : bytes_eq (name s) (name t) ≡ true = ap (λ c. bytes_eq (name s) c) (same_text (name t) (name s) parts.1) ∙ text_itself (name s) in
             let again : same_place t s ≡ true = ap₂ ◌&&◌ numbers names in cc)
         | false ↦ (λ h. refl)
-        ]) refl
+      ]) refl
 
   AreDistinct-filter : (p : R → Bool) (xs : List R) → AreDistinct xs → AreDistinct (filter p xs)
   AreDistinct-filter p [] distinct = tt
   AreDistinct-filter p (r ∷ xs) distinct =
       elim (p r) as (λ b. AreDistinct (cond b (r ∷ filter p xs) (filter p xs))) [
-          true ↦ (list_any-part (same_place r) p xs distinct.0, AreDistinct-filter p xs distinct.1)
+        | true ↦ (list_any-part (same_place r) p xs distinct.0, AreDistinct-filter p xs distinct.1)
         | false ↦ AreDistinct-filter p xs distinct.1
-        ]
+      ]
 
   AreDistinct-push : (xs : List R) (n : R) → AreDistinct xs → list_any (same_place n) xs ≡ false → AreDistinct (xs ++ n ∷ [])
   AreDistinct-push [] n distinct none = (refl, tt)
@@ -121,15 +121,15 @@ module _ {R : Type 0} (number : R → ℕ) (name : R → List ℕ) where
       let p : R → Bool = λ r. number r == n in
       let rest : List R = named ys c in
       (elim (bytes_eq (name y) c) as (λ b. bytes_eq (name y) c ≡ b → list_any p (cond b (y ∷ rest) rest) ≡ true → (r : R) × IsOnly p (cond b (y ∷ rest) rest) r) [
-          true ↦ (λ here there. (elim (p y) as (λ b. p y ≡ b → (b || list_any p rest) ≡ true → (r : R) × IsOnly p (y ∷ rest) r) [
-              true ↦ (λ own h.
-                let same : number y ≡ n = grind (arith, nat_tests, own) in
-                let test : list_any (λ t. (number t == n) && bytes_eq (name t) c) ys ≡ false = ap₂ (λ k x. list_any (λ t. (number t == k) && bytes_eq (name t) x) ys) (sym same) (sym (same_text (name y) c here)) ∙ distinct.0 in
-                let none : filter p rest ≡ [] = filter-nothing p rest (list_any-filter p (λ r. bytes_eq (name r) c) ys ∙ test) in
-                (y, record { found = ap (λ b. cond b (Some y) (find p rest)) own; alone = ap (λ b. cond b (y ∷ filter p rest) (filter p rest)) own ∙ ap (λ zs. y ∷ zs) none }))
-            | false ↦ (λ other h.
-                let it = only n c ys distinct.1 h in
-                (it.0, record { found = ap (λ b. cond b (Some y) (find p rest)) other ∙ it.1.found; alone = ap (λ b. cond b (y ∷ filter p rest) (filter p rest)) other ∙ it.1.alone }))
-            ]) refl there)
+        | true ↦ (λ here there. (elim (p y) as (λ b. p y ≡ b → (b || list_any p rest) ≡ true → (r : R) × IsOnly p (y ∷ rest) r) [
+          | true ↦ (λ own h.
+              let same : number y ≡ n = grind (arith, nat_tests, own) in
+              let test : list_any (λ t. (number t == n) && bytes_eq (name t) c) ys ≡ false = ap₂ (λ k x. list_any (λ t. (number t == k) && bytes_eq (name t) x) ys) (sym same) (sym (same_text (name y) c here)) ∙ distinct.0 in
+              let none : filter p rest ≡ [] = filter-nothing p rest (list_any-filter p (λ r. bytes_eq (name r) c) ys ∙ test) in
+              (y, record { found = ap (λ b. cond b (Some y) (find p rest)) own; alone = ap (λ b. cond b (y ∷ filter p rest) (filter p rest)) own ∙ ap (λ zs. y ∷ zs) none }))
+          | false ↦ (λ other h.
+              let it = only n c ys distinct.1 h in
+              (it.0, record { found = ap (λ b. cond b (Some y) (find p rest)) other ∙ it.1.found; alone = ap (λ b. cond b (y ∷ filter p rest) (filter p rest)) other ∙ it.1.alone }))
+        ]) refl there)
         | false ↦ (λ elsewhere there. only n c ys distinct.1 there)
-        ]) refl there
+      ]) refl there

@@ -1,5 +1,5 @@
 -- The subscriptions of one channel after one more entry, and that a socket is on a channel at most once.
-use Rattle.std.proofs.Common.{◌≡◌, ℕ, ◌==◌, Bool, true, false, not, ◌&&◌, cond, List, [], ◌∷◌, ◌++◌, Option, None, filter, bytes_eq, option_to_list, refl, ap, sym, ◌∙◌, subst, append-nil}
+use Rattle.std.proofs.Common.{◌≡◌, ℕ, ◌==◌, Bool, true, false, not, ◌&&◌, cond, List, [], ◌∷◌, ◌++◌, None, filter, bytes_eq, option_to_list, refl, ap, sym, ◌∙◌, subst, append-nil}
 use Rattle.std.specs.List.{list_any}
 use Rattle.ch_base.specs.Growth.{entry}
 use Rattle.ch_base.specs.declared.channel.ChanCall.{ChanCall}
@@ -8,15 +8,14 @@ use Rattle.ch_base.specs.declared.channel.ChanAnswer.{ChanAnswer}
 use Rattle.ch_base.specs.declared.channel.ChanAnswer.TheVariants.{Joined, Already, Crowded}
 use Rattle.ch_history.specs.declared.rows.Subscription.{Subscription}
 use Rattle.ch_history.specs.Entries.{ChanEntry, ChanHistory}
-use Rattle.ch_history.specs.OpenRows.{rows_after}
-use Rattle.ch_history.specs.Subscriptions.{is_joined, opened, settles, subscriptions, subs_after, subs, on, on_channel}
+use Rattle.ch_history.specs.Subscriptions.{is_joined, opened, settles, subscriptions, subs, on, on_channel}
 use Rattle.ch_history.specs.Answers.{answer_of, is_crowded}
-use Rattle.ch_history.specs.Legal.{Follows, IsLegal}
+use Rattle.ch_history.specs.Legal.{IsLegal}
 use Rattle.ch_history.proofs.Lists.{list_any-part, filter-none, filter-weaker}
 use Rattle.ch_history.proofs.Texts.{same_text, other_text}
 use Rattle.ch_history.proofs.Push.{subscriptions-push}
 use Rattle.ch_history.proofs.Legal.{legal_induction}
-use Rattle.ch_history.proofs.OpenRows.{opens_nothing, named-after, own_name, in_names, not_among, AreDistinct, AreDistinct-less, AreDistinct-more, IsOnly, only}
+use Rattle.ch_history.proofs.OpenRows.{opens_nothing, named-after, not_among, AreDistinct, AreDistinct-less, AreDistinct-more, IsOnly, only}
 
 -- whether the entry leaves the subscription open
 abbrev pub stays : ChanEntry → Subscription → Bool
@@ -59,8 +58,8 @@ pub other_channel : (h : ChanHistory) (e : ChanEntry) (socket : ℕ) (d c : List
 other_channel h e socket d c nothing own differs =
     subs-left h e c nothing
     ∙ filter-weaker (stays e) (λ s. bytes_eq s.channel c) (subscriptions h) (λ s here.
-        let elsewhere : bytes_eq s.channel d ≡ false = ap (λ x. bytes_eq x d) (same_text s.channel c here) ∙ other_text d c differs in
-        ap not (own s ∙ ap (λ b. (s.socket == socket) && b) elsewhere ∙ and-false (s.socket == socket)))
+    let elsewhere : bytes_eq s.channel d ≡ false = ap (λ x. bytes_eq x d) (same_text s.channel c here) ∙ other_text d c differs in
+    ap not (own s ∙ ap (λ b. (s.socket == socket) && b) elsewhere ∙ and-false (s.socket == socket)))
 
 -- A socket is on a channel at most once
 
@@ -77,15 +76,15 @@ stays_apart : (h : ChanHistory) (w : ℕ) (call : ChanCall) (a : ChanAnswer) →
 stays_apart h w (Join socket c m at) a answered apart =
     let P : ChanAnswer → Type 0 = λ a. AreApart (subscriptions (h ++ entry w (Join socket c m at) a ∷ [])) in
     subst P (sym answered) ((elim (on h socket c) as (λ b. on h socket c ≡ b → P (cond b Already (cond (is_crowded c (subs h c) m) Crowded Joined))) [
-        true ↦ (λ there. closes h (entry w (Join socket c m at) Already) refl apart)
+      | true ↦ (λ there. closes h (entry w (Join socket c m at) Already) refl apart)
       | false ↦ (λ off. elim (is_crowded c (subs h c) m) as (λ b. P (cond b Crowded Joined)) [
-          true ↦ closes h (entry w (Join socket c m at) Crowded) refl apart
+        | true ↦ closes h (entry w (Join socket c m at) Crowded) refl apart
         | false ↦
             let e : ChanEntry = entry w (Join socket c m at) Joined in
             let n : Subscription = record { channel = c; socket = socket; owner = w; member = m } in
             subst AreApart (sym (subscriptions-push h e)) (AreDistinct-more socket_of channel_of opened settles (subscriptions h) e n refl off apart)
-        ])
-      ]) refl)
+      ])
+    ]) refl)
 stays_apart h w (Leave socket c at) a answered apart = closes h (entry w (Leave socket c at) a) (opens_nothing (is_joined a)) apart
 stays_apart h w (Lost socket at) a answered apart = closes h (entry w (Lost socket at) a) (opens_nothing (is_joined a)) apart
 stays_apart h w (Publish c event body x at) a answered apart = closes h (entry w (Publish c event body x at) a) (opens_nothing (is_joined a)) apart

@@ -1,5 +1,5 @@
 -- Legal histories of a user shard: their fronts, their last entry, and one entry more.
-use Rattle.std.proofs.Common.{List, [], ◌∷◌, ◌++◌}
+use Rattle.std.proofs.Common.{[], ◌∷◌, ◌++◌}
 use Rattle.ch_history.specs.Entries.{UserEntry, UserHistory}
 use Rattle.ch_history.specs.UserLegal.{UserFollows, IsUserLegal}
 use Rattle.ch_history.proofs.Steps.{AllHold-push, AllHold-front, AllHold-last, history_induction}

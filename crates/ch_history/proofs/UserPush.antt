@@ -1,10 +1,9 @@
 -- What one more entry at the end of a user shard's history changes in each definition.
-use Rattle.std.proofs.Common.{◌≡◌, ℕ, cond, List, [], ◌∷◌, ◌++◌}
+use Rattle.std.proofs.Common.{◌≡◌, ℕ, cond, [], ◌∷◌, ◌++◌}
 use Rattle.ch_history.specs.Entries.{UserEntry, UserHistory}
 use Rattle.ch_history.specs.Deliveries.{for_owner}
 use Rattle.ch_history.specs.SignIns.{signs_in, sign_settles, sign_ins, sign_ins_after, begins_watch, watch_settles, watches, watches_after}
 use Rattle.ch_history.specs.UserFrames.{user_takes, user_waiting, user_frames}
-use Rattle.ch_history.specs.UserLaws.{starts_watch}
 use Rattle.ch_history.proofs.Steps.{open_rows-push, gathered-push}
 
 -- the sign-ins that the entry leaves, and then the one that it makes

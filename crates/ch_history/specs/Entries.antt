@@ -1,5 +1,6 @@
 -- The entries and the histories of the two kinds of shard.
-use Rattle.std.specs.Prelude.{List}
+use Rattle.std.specs.Prelude.{ℕ, List, [], ◌∷◌, ◌++◌}
+use Rattle.ch_base.specs.Growth.{entry}
 use Rattle.ch_base.specs.declared.entry.Entry.{Entry}
 use Rattle.ch_base.specs.declared.channel.ChanCall.{ChanCall}
 use Rattle.ch_base.specs.declared.channel.ChanAnswer.{ChanAnswer}
@@ -21,3 +22,7 @@ UserEntry = Entry UserCall UserAnswer
 -- the entries of a user shard, the oldest first
 abbrev pub UserHistory : Type 0
 UserHistory = List UserEntry
+
+-- the history with one more entry
+abbrev pub called : {C A : Type 0} → List (Entry C A) → ℕ → C → A → List (Entry C A)
+called h caller call answer = h ++ entry caller call answer ∷ []

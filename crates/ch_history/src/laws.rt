@@ -1,4 +1,5 @@
 ghost use Rattle.ch_history.specs.Laws.{OccupancyLaw, MembershipLaw, CacheNewcomerLaw};
+ghost use Rattle.ch_history.specs.UserLaws.{WatchersLaw};
 
 /// `channel_occupied` and `channel_vacated` of each channel alternate in every legal history, and
 /// end at whether a socket is subscribed.
@@ -15,4 +16,10 @@ pub fn membership_alternates()
 /// A newcomer of a cache channel is sent exactly one of the latest event and a cache miss.
 pub fn cache_newcomers_are_told()
     ensures { CacheNewcomerLaw }
+{}
+
+/// While a socket watches a user, the online and offline frames that it is sent alternate in every
+/// legal history, and end at whether the user is online.
+pub fn watchers_are_told()
+    ensures { WatchersLaw }
 {}
