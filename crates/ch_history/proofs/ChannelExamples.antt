@@ -26,7 +26,7 @@ pub two_sockets : TwoSockets
 two_sockets = record { answered = (refl, (refl, (refl, (refl, tt)))); first_info = refl; second_info = refl; nobody = refl; events = refl }
 
 pub another_user : AnotherUser
-another_user = record { answered = (refl, (refl, (refl, (refl, (refl, (refl, (refl, (refl, tt)))))))); frames = refl }
+another_user = record { answered = (refl, (refl, (refl, (refl, (refl, (refl, (refl, (refl, tt)))))))); frames = refl; events = refl }
 
 pub cache_newcomers : CacheNewcomers
 cache_newcomers = record { answered = (refl, (refl, (refl, (refl, tt)))); frames = refl; events = refl }

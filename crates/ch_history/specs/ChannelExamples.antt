@@ -111,6 +111,13 @@ pub record AnotherUser : Type 0 where
       ∷ gets 2 (frame.Event room (codes "client-m") (codes "{}") (Some (codes "v")))
       ∷ gets 2 (frame.Removed room (codes "v"))
       ∷ []
+  pub events : hook_list another_user ≡
+      hook.Occupied room
+      ∷ hook.Added room (codes "u")
+      ∷ hook.Added room (codes "v")
+      ∷ hook.Client room (codes "client-m") (codes "{}") 3 (Some (codes "v"))
+      ∷ hook.Removed room (codes "v")
+      ∷ []
 
 -- A newcomer of a cache channel, without and with a latest event.
 
