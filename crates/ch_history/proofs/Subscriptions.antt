@@ -15,7 +15,8 @@ use Rattle.ch_history.proofs.Lists.{list_any-part, filter-none, filter-weaker}
 use Rattle.ch_history.proofs.Texts.{same_text, other_text}
 use Rattle.ch_history.proofs.Push.{subscriptions-push}
 use Rattle.ch_history.proofs.Legal.{legal_induction}
-use Rattle.ch_history.proofs.OpenRows.{opens_nothing, named-after, not_among, AreDistinct, AreDistinct-less, AreDistinct-more, IsOnly, only}
+pub use Rattle.ch_history.proofs.OpenRows.{opens_nothing}
+use Rattle.ch_history.proofs.OpenRows.{named-after, not_among, AreDistinct, AreDistinct-less, AreDistinct-more, IsOnly, only}
 
 -- whether the entry leaves the subscription open
 abbrev pub stays : ChanEntry → Subscription → Bool
