@@ -1,5 +1,6 @@
 pub mod Lists
 pub mod Texts
+pub mod Ascending
 pub mod Steps
 pub mod OpenRows
 pub mod Push

@@ -51,7 +51,7 @@ place_only f x (y ∷ ys) only none =
 or-swap : (a b c : Bool) → (a || (b || c)) ≡ (b || (a || c))
 or-swap a b c = sym (or_assoc a b c) ∙ ap (λ d. d || c) (or_comm a b) ∙ or_assoc b a c
 
-has_text-place : (x c : List ℕ) (ys : List (List ℕ)) → has_text (place x ys) c ≡ (bytes_eq x c || has_text ys c)
+pub has_text-place : (x c : List ℕ) (ys : List (List ℕ)) → has_text (place x ys) c ≡ (bytes_eq x c || has_text ys c)
 has_text-place x c [] = refl
 has_text-place x c (y ∷ ys) =
     elim (is_before x y) as (λ b. has_text (cond b (x ∷ y ∷ ys) (y ∷ place x ys)) c ≡ (bytes_eq x c || (bytes_eq y c || has_text ys c))) [
@@ -60,7 +60,7 @@ has_text-place x c (y ∷ ys) =
     ]
 
 -- a text that comes again
-comes_again : (x c : List ℕ) (xs : List (List ℕ)) → has_text xs x ≡ true → (bytes_eq x c || has_text xs c) ≡ has_text xs c
+pub comes_again : (x c : List ℕ) (xs : List (List ℕ)) → has_text xs x ≡ true → (bytes_eq x c || has_text xs c) ≡ has_text xs c
 comes_again x c xs again =
     (elim (bytes_eq x c) as (λ b. bytes_eq x c ≡ b → (b || has_text xs c) ≡ has_text xs c) [
       | true ↦ (λ is. sym again ∙ ap (has_text xs) (same_text x c is))
