@@ -3,6 +3,7 @@
 use Rattle.std.specs.Prelude.{ℕ, Bool, true, false, ◌&&◌, ◌||◌, List, length, nat_eq, nat_le, codes, if◌then◌else◌}
 use Rattle.std.specs.List.{list_any, list_all, starts_with}
 
+-- the eight kinds of channel
 pub data Kind : Type 0 where
   Public : Kind
   Private : Kind

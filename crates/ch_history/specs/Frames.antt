@@ -62,10 +62,12 @@ abbrev pub is_other : Option ℕ → ℕ → Bool
 is_other None socket = true
 is_other (Some excepted) socket = not (socket == excepted)
 
+-- whether a Leave is answered Left
 abbrev pub is_left : ChanAnswer → Bool
 is_left Left = true
 is_left _ = false
 
+-- whether a Say is answered Said
 abbrev pub is_said : ChanAnswer → Bool
 is_said Said = true
 is_said _ = false
@@ -93,11 +95,12 @@ frames_by before after kept caller answer _ = []
 abbrev pub frames : ChanHistory → ChanEntry → List Delivery
 frames h e = frames_by (subscriptions h) (subscriptions (h ++ e ∷ [])) (latest h) e.caller e.answer e.call
 
+-- whether the call of the caller is a Take of w
 abbrev pub is_take_by : ℕ → ℕ → ChanCall → Bool
 is_take_by w caller Take = caller == w
 is_take_by w caller _ = false
 
--- whether the entry is a Take of the caller w
+-- whether the entry is a Take of w
 abbrev pub takes : ℕ → ChanEntry → Bool
 takes w e = is_take_by w e.caller e.call
 

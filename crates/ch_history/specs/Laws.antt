@@ -49,6 +49,7 @@ occupancy c _ = None
 abbrev pub OccupancyAlternates : ChanHistory → List ℕ → Type 0
 OccupancyAlternates h c = Goes false (is_occupied h c) (filter_map (occupancy c) (hook_list h))
 
+-- the law of occupancy
 abbrev pub OccupancyLaw : Type 0
 OccupancyLaw = (h : ChanHistory) → IsLegal h → (c : List ℕ) → OccupancyAlternates h c
 
@@ -65,6 +66,7 @@ membership c id _ = None
 abbrev pub MembershipAlternates : ChanHistory → List ℕ → List ℕ → Type 0
 MembershipAlternates h c id = Goes false (has_user c (subs h c) id) (filter_map (membership c id) (hook_list h))
 
+-- the law of membership
 abbrev pub MembershipLaw : Type 0
 MembershipLaw = (h : ChanHistory) → IsLegal h → (c id : List ℕ) → IsTrue (is_presence c) → MembershipAlternates h c id
 
@@ -86,11 +88,14 @@ GreetsBy h e (Join socket c member at) =
     IsTrue (is_joined e.answer && is_cache c) → length (told socket (frames h e)) ≡ 1
 GreetsBy h e _ = Unit {0}
 
+-- the same of an entry
 abbrev pub Greets : ChanHistory → ChanEntry → Type 0
 Greets h e = GreetsBy h e e.call
 
+-- the same of every entry of the history
 abbrev pub NewcomersGreeted : ChanHistory → Type 0
 NewcomersGreeted h = AllHold Greets [] h
 
+-- the law of cache newcomers
 abbrev pub CacheNewcomerLaw : Type 0
 CacheNewcomerLaw = (h : ChanHistory) → IsLegal h → NewcomersGreeted h

@@ -9,7 +9,7 @@ IsSocket socket = (1 ≤ socket) × (socket ≤ 2 ^ 62)
 abbrev pub IsMoment : ℕ → Type 0
 IsMoment at = at ≤ 10 ^ 15
 
--- an event name: 1 to 200 bytes (Pusher Channels documentation, HTTP API, "Publishing events")
+-- an event name: 1 to 200 bytes (Pusher Channels documentation, HTTP API, "POST event")
 abbrev pub is_event_name : List ℕ → Bool
 is_event_name name = nat_le 1 (length name) && nat_le (length name) 200
 

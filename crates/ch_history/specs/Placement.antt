@@ -9,9 +9,11 @@ use Rattle.ch_history.specs.Entries.{ChanHistory, UserHistory}
 use Rattle.ch_history.specs.Legal.{IsLegal}
 use Rattle.ch_history.specs.UserLegal.{IsUserLegal}
 
+-- the hash of no bytes
 abbrev pub fnv_offset : ℕ
 fnv_offset = 14695981039346656037
 
+-- by what the hash is multiplied at each byte
 abbrev pub fnv_prime : ℕ
 fnv_prime = 1099511628211
 

@@ -11,19 +11,23 @@ use Rattle.ch_history.specs.Entries.{UserEntry, UserHistory}
 use Rattle.ch_history.specs.OpenRows.{open_rows, rows_after, is_empty}
 use Rattle.ch_history.specs.Texts.{ascending}
 
+-- whether a SignIn is answered SignedIn
 abbrev pub is_signed_in : UserAnswer → Bool
 is_signed_in SignedIn = true
 is_signed_in _ = false
 
+-- whether a Watch is answered Watching
 abbrev pub is_watching : UserAnswer → Bool
 is_watching Watching = true
 is_watching _ = false
 
+-- the socket of a sign-in or a watch, and the caller that made it
 abbrev pub user_socket : ℕ → ℕ → List ℕ → UserSocket
 user_socket caller socket user = record { user = user; socket = socket; owner = caller }
 
 -- Sign-ins
 
+-- the sign-in that a SignIn asks for
 abbrev pub sign_in_by : ℕ → UserCall → Option UserSocket
 sign_in_by caller (SignIn socket user at) = Some (user_socket caller socket user)
 sign_in_by caller _ = None
@@ -32,12 +36,13 @@ sign_in_by caller _ = None
 abbrev pub signs_in : UserEntry → Option UserSocket
 signs_in e = if is_signed_in e.answer then sign_in_by e.caller e.call else None
 
+-- whether the call signs in anew, or loses the socket
 abbrev pub is_sign_settled_by : UserSocket → UserAnswer → UserCall → Bool
 is_sign_settled_by r answer (SignIn socket user at) = is_signed_in answer && (r.socket == socket) && bytes_eq r.user user
 is_sign_settled_by r answer (Lost socket at) = r.socket == socket
 is_sign_settled_by r answer _ = false
 
--- whether the entry is a later word on this sign-in: it signs in anew, or loses the socket
+-- whether the entry is a later word on this sign-in
 abbrev pub sign_settles : UserSocket → UserEntry → Bool
 sign_settles r e = is_sign_settled_by r e.answer e.call
 
@@ -51,6 +56,7 @@ sign_ins_after xs e = rows_after signs_in sign_settles xs e
 
 -- Watches
 
+-- the watch that a Watch asks for
 abbrev pub watch_by : ℕ → UserCall → Option UserSocket
 watch_by caller (Watch socket watched at) = Some (user_socket caller socket watched)
 watch_by caller _ = None
@@ -59,12 +65,13 @@ watch_by caller _ = None
 abbrev pub begins_watch : UserEntry → Option UserSocket
 begins_watch e = if is_watching e.answer then watch_by e.caller e.call else None
 
+-- whether the call begins the watch anew, or loses the socket
 abbrev pub is_watch_settled_by : UserSocket → UserAnswer → UserCall → Bool
 is_watch_settled_by r answer (Watch socket watched at) = is_watching answer && (r.socket == socket) && bytes_eq r.user watched
 is_watch_settled_by r answer (Lost socket at) = r.socket == socket
 is_watch_settled_by r answer _ = false
 
--- whether the entry is a later word on this watch: it begins anew, or the socket is lost
+-- whether the entry is a later word on this watch
 abbrev pub watch_settles : UserSocket → UserEntry → Bool
 watch_settles r e = is_watch_settled_by r e.answer e.call
 

@@ -10,6 +10,7 @@ use Rattle.ch_history.specs.Entries.{ChanEntry, ChanHistory}
 use Rattle.ch_history.specs.OpenRows.{open_rows, rows_after}
 use Rattle.ch_history.specs.Texts.{ascending}
 
+-- whether a Join is answered Joined
 abbrev pub is_joined : ChanAnswer → Bool
 is_joined Joined = true
 is_joined _ = false

@@ -48,11 +48,12 @@ abbrev pub user_frames : UserHistory → UserEntry → List Delivery
 user_frames h e =
     user_frames_by (sign_ins h) (sign_ins (h ++ e ∷ [])) (watches h) (watches (h ++ e ∷ [])) e.caller e.answer e.call
 
+-- whether the call of the caller is a Take of w
 abbrev pub is_user_take_by : ℕ → ℕ → UserCall → Bool
 is_user_take_by w caller Take = caller == w
 is_user_take_by w caller _ = false
 
--- whether the entry is a Take of the caller w
+-- whether the entry is a Take of w
 abbrev pub user_takes : ℕ → UserEntry → Bool
 user_takes w e = is_user_take_by w e.caller e.call
 

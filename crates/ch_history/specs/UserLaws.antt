@@ -22,6 +22,7 @@ says_of user _ = None
 abbrev pub tells : ℕ → List ℕ → Delivery → Option Bool
 tells socket user d = if d.item.socket == socket then says_of user d.item.frame else None
 
+-- whether the call begins the socket's watch of the user
 abbrev pub is_watch_of : ℕ → List ℕ → UserAnswer → UserCall → Bool
 is_watch_of socket user answer (Watch s watched at) = is_watching answer && (s == socket) && bytes_eq watched user
 is_watch_of socket user answer _ = false
@@ -39,5 +40,6 @@ told_of h socket user = filter_map (tells socket user) (gathered_from (starts_wa
 abbrev pub WatchAlternates : UserHistory → ℕ → List ℕ → Type 0
 WatchAlternates h socket user = IsTrue (watching h socket user) → Goes false (online h user) (told_of h socket user)
 
+-- the law of watchers
 abbrev pub WatchersLaw : Type 0
 WatchersLaw = (h : UserHistory) → IsUserLegal h → (socket : ℕ) (user : List ℕ) → WatchAlternates h socket user

@@ -62,6 +62,7 @@ hooks_by before after kept answer _ = []
 abbrev pub hooks : ChanHistory → ChanEntry → List Hook
 hooks h e = hooks_by (subscriptions h) (subscriptions (h ++ e ∷ [])) (latest h) e.answer e.call
 
+-- whether the call takes the pending webhook events
 abbrev pub is_take_hooks : ChanCall → Bool
 is_take_hooks (TakeHooks at) = true
 is_take_hooks _ = false
