@@ -6,6 +6,7 @@ pub mod OpenRows
 pub mod Push
 pub mod Legal
 pub mod Subscriptions
+pub mod Members
 pub mod Change
 pub mod Marks
 pub mod Occupancy
