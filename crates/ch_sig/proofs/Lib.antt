@@ -1,0 +1,4 @@
+pub mod AuthorizationLemmas
+pub mod BitLemmas
+pub mod ParameterLemmas
+pub mod QueryLemmas

@@ -1,0 +1,4 @@
+pub mod Hmac
+pub mod MacState
+pub mod Parameters
+pub mod SignedText
