@@ -1,0 +1,14 @@
+//! What holds of every text.
+ghost use Rattle.std.specs.Prelude.{◌≡◌, ℕ, List};
+ghost use Rattle.ch_base.specs.JsonTree.{Tree};
+ghost use Rattle.ch_base.specs.JsonText.{Spells, Unescapes};
+
+/// A text spells at most one tree.
+pub fn one_tree()
+    ensures { (text : List ℕ) (v : Tree) (w : Tree) → Spells text v → Spells text w → v ≡ w }
+{}
+
+/// A string has at most one text.
+pub fn one_text()
+    ensures { (bytes : List ℕ) (v : List ℕ) (w : List ℕ) → Unescapes bytes v → Unescapes bytes w → v ≡ w }
+{}
