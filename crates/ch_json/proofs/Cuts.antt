@@ -1,8 +1,8 @@
 -- What a rule leaves is the end of the text that it took a part off, and that part ends with an ASCII byte.
-use Rattle.std.proofs.Common.{◌≡◌, ◌⊎◌, inl, inr, ℕ, zero, suc, ◌+◌, ◌<◌, ◌≤◌, List, [], ◌∷◌, ◌++◌, append_assoc, length, Bool, true, false, ◌&&◌, ◌||◌, ◌==◌, refl, sym, ap, ◌∙◌, subst, arith, lit<}
-use Rattle.ch_base.specs.Grammar.{Rule, Byte, One, Word, ◌then◌, ◌or◌, Maybe, Many}
-use Rattle.ch_base.specs.JsonTree.{Span, Plain, null, no, yes, number, string, Tree, plain, array, object, Items, no_items, item, Members, no_members, member}
-use Rattle.ch_base.specs.JsonText.{is_blank, Blanks, is_digit, is_digit_1_to_9, is_e, is_sign, Digits, Whole, Fraction, Exponent, Number, Char, byte, short, unit, pair, spelling, Chars, String, Stands, PlainValue, Value, Items_, MoreItems, Members_, MoreMembers}
+use Rattle.std.proofs.Common.{◌≡◌, ◌⊎◌, inl, inr, ℕ, zero, suc, ◌<◌, List, [], ◌∷◌, ◌++◌, append_assoc, Bool, true, refl, sym, ap, ◌∙◌, subst, arith, lit<}
+use Rattle.ch_base.specs.Grammar.{Rule, Byte, One, ◌then◌, ◌or◌, Maybe, Many}
+use Rattle.ch_base.specs.JsonTree.{Plain, null, no, yes, number, string, Tree, plain, array, object, Items, no_items, item, Members, no_members, member}
+use Rattle.ch_base.specs.JsonText.{is_blank, Blanks, is_digit, is_digit_1_to_9, is_e, is_sign, Digits, Whole, Fraction, Exponent, Number, Char, spelling, Chars, String, PlainValue, Value, Items_, MoreItems, Members_, MoreMembers}
 
 -- r is the end of t
 abbrev pub Cut : List ℕ → List ℕ → Type 0

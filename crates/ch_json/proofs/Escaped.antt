@@ -1,9 +1,9 @@
 -- Escaping, a run at a time.
-use Rattle.std.proofs.Common.{◌≡◌, ◌⊎◌, inl, inr, ℕ, zero, suc, ◌+◌, ◌-◌, ◌<◌, ◌≤◌, List, [], ◌∷◌, ◌++◌, length, take, drop, get_or, append_assoc, append-nil, Bool, true, false, cond, ◌==◌, nat_lt, refl, sym, ap, ap₂, ◌∙◌, subst, arith}
-use Rattle.std.proofs.lemmas.List.{drop_more, drop_all, take-append-drop, drop-drop, length-drop, get_or-take, get_or-drop, length-take-le, length-take, take-append-le}
+use Rattle.std.proofs.Common.{◌≡◌, inl, inr, ℕ, suc, ◌+◌, ◌-◌, ◌<◌, ◌≤◌, List, [], ◌∷◌, ◌++◌, length, take, drop, get_or, append_assoc, true, false, refl, sym, ap, ap₂, ◌∙◌, subst, arith}
+use Rattle.std.proofs.lemmas.List.{drop_more, take-append-drop, drop-drop, length-drop, get_or-take, get_or-drop, length-take, take-append-le}
 use Rattle.std.proofs.lemmas.Bool.{cases_lt}
 use Rattle.std.proofs.lemmas.Grind.{flat_map-append}
-use Rattle.ch_base.specs.Escape.{escaped, escaped_byte, escape_letter, needs_escape}
+use Rattle.ch_base.specs.Escape.{escaped, escaped_byte, needs_escape}
 
 pub escaped_plain : (x : ℕ) → needs_escape x ≡ false → escaped_byte x ≡ x ∷ []
 unfolding escaped_byte

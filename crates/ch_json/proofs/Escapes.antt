@@ -1,16 +1,16 @@
 -- The escapes of a string, by their places.
-use Rattle.std.proofs.Common.{◌≡◌, ◌⊎◌, inl, inr, ℕ, zero, suc, ◌+◌, ◌-◌, ◌*◌, ◌<◌, ◌≤◌, List, [], ◌∷◌, ◌++◌, length, length-append, take, drop, get_or, Bool, true, false, not, ◌&&◌, ◌||◌, ◌==◌, refl, sym, ap, ap₂, ◌∙◌, subst, arith}
+use Rattle.std.proofs.Common.{◌≡◌, inl, inr, ℕ, zero, suc, ◌+◌, ◌-◌, ◌*◌, ◌<◌, ◌≤◌, List, [], ◌∷◌, ◌++◌, length, length-append, take, drop, get_or, Bool, true, false, not, ◌&&◌, ◌||◌, ◌==◌, refl, sym, ap, ap₂, ◌∙◌, subst, arith}
 use Rattle.std.specs.Prelude.{flat_map, IsUtf8}
 use Rattle.std.specs.Char.{encode_utf8, InScalarRange}
 use Rattle.std.specs.List.{slice_range}
 use Rattle.std.specs.Str.{IsCharBoundary}
 use Rattle.std.proofs.lemmas.Str.{IsCharBoundary-after_ascii, IsCharBoundary-before_ascii, IsCharBoundary-end, encode_ascii}
-use Rattle.std.proofs.lemmas.Bool.{eqb-true, and_parts, cases_lt}
-use Rattle.std.proofs.lemmas.List.{drop-drop, length-drop, get_or-drop, drop_all, drop_more}
-use Rattle.ch_base.specs.JsonText.{is_hex, is_d, is_8_to_b, is_c_to_f, is_short, is_unescaped, Char, byte, short, unit, pair, is_char, spelling, Chars, short_value, hex_value, meaning}
+use Rattle.std.proofs.lemmas.Bool.{and_parts, cases_lt}
+use Rattle.std.proofs.lemmas.List.{drop-drop, length-drop, get_or-drop, drop_all}
+use Rattle.ch_base.specs.JsonText.{is_hex, is_d, is_8_to_b, is_c_to_f, is_short, Char, byte, short, unit, pair, is_char, Chars, short_value, hex_value, meaning}
 use Rattle.ch_json.specs.Pieces.{GoesOn, AreHex}
 use Rattle.ch_json.proofs.OneText.{no_quote, no_backslash}
-use Rattle.ch_json.proofs.Digits.{d_is_hex, hex_small, unit_scalar, IsPairOf, pair_values}
+use Rattle.ch_json.proofs.Digits.{d_is_hex, unit_scalar, IsPairOf, pair_values}
 
 -- ---- a part at a place
 

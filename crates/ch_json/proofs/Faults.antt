@@ -1,10 +1,10 @@
 -- Where a text is at fault.
 use Rattle.std.proofs.lemmas.Bool.{eqb-true, cases_lt}
 use Rattle.std.proofs.lemmas.List.{take_more, length-take-le, take-append-drop}
-use Rattle.std.proofs.Common.{◌==◌, take-add, take_all, ◌≡◌, ◌⊎◌, inl, inr, ℕ, zero, suc, ◌+◌, ◌-◌, ◌<◌, ◌≤◌, List, [], ◌∷◌, ◌++◌, length, length-append, append_assoc, append-nil, take, drop, get_or, Bool, true, false, cond, Option, Some, None, refl, sym, ap, ap₂, ◌∙◌, subst, arith}
+use Rattle.std.proofs.Common.{◌==◌, take-add, take_all, ◌≡◌, ◌⊎◌, inl, inr, ℕ, zero, suc, ◌+◌, ◌-◌, ◌<◌, ◌≤◌, List, [], ◌∷◌, ◌++◌, length, append_assoc, take, drop, get_or, Bool, true, false, cond, Some, None, refl, sym, ap, ◌∙◌, subst, arith}
 use Rattle.ch_base.specs.JsonTree.{Span, Plain, Tree, Items, no_items, item, Members, no_members, member}
 use Rattle.ch_base.specs.JsonTree as tree
-use Rattle.ch_base.specs.JsonText.{SpellsWithin, max_depth, is_blank, is_digit}
+use Rattle.ch_base.specs.JsonText.{SpellsWithin, max_depth, is_blank}
 use Rattle.ch_json.specs.Front.{IsFront, IsLongestFront, IsTooDeep, IsSyntaxFault}
 use Rattle.ch_json.specs.Scalars.{InNumber, minus, NumberStep, more, stop, number_step, StringStep, ends, on, fault, string_step, may_end}
 use Rattle.ch_json.specs.Machine.{span, Frame, in_array, in_object, Mode, value, first_item, first_key, next_key, key, colon, word, number, string, after, Outcome, go, wrong, deep, open_bracket, start_number, start, after_step, in_word, string_outcome, key_outcome, number_outcome, step, run, begin, finish}

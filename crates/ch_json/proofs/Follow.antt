@@ -1,5 +1,5 @@
 -- What the code's states stand for, as they change.
-use Rattle.std.proofs.Common.{Vec, Global, ◌≡◌, ◌⊎◌, inl, inr, ℕ, zero, suc, ◌+◌, ◌-◌, ◌<◌, ◌≤◌, List, [], ◌∷◌, ◌++◌, length, length-append, append_assoc, append-nil, take, take_all, drop, get_or, map, Bool, true, false, cond, ◌==◌, Option, Some, None, Result, Ok, Err, refl, sym, ap, ap₂, ◌∙◌, subst, arith}
+use Rattle.std.proofs.Common.{Vec, Global, ◌≡◌, inl, inr, ℕ, zero, suc, ◌+◌, ◌-◌, ◌<◌, ◌≤◌, List, [], ◌∷◌, ◌++◌, length, length-append, append_assoc, drop, get_or, map, true, false, ◌==◌, Some, None, Result, Ok, Err, refl, sym, ap, ap₂, ◌∙◌, subst, arith}
 use Rattle.std.specs.Prelude.{slice_get, IsErrAnd}
 use Rattle.std.proofs.lemmas.Bool.{ne_eqb, cases_lt}
 use Rattle.ch_json.proofs.Choice.{when_so, when_not}
@@ -8,12 +8,12 @@ use Rattle.ch_json.specs.Scalars.{InNumber, NumberStep, stop, may_end}
 use Rattle.std.proofs.lemmas.List.{drop_more, drop_all, map-append, length-map}
 use Rattle.ch_base.specs.JsonTree as tree
 use Rattle.ch_base.specs.JsonTree.{Tree, Items, no_items, item, Members, no_members, member}
-use Rattle.ch_base.specs.JsonText.{max_depth, is_blank, SpellsWithin}
+use Rattle.ch_base.specs.JsonText.{is_blank}
 use Rattle.ch_json.specs.Machine as spec
 use Rattle.ch_json.specs.Machine.{Outcome, go, wrong, deep, in_array, in_object, span, onto, onto_members}
-use Rattle.ch_json.specs.Document.{Document, Nodes, Shape, plain, list, object, Shows, ShowsItems, ShowsMembers}
-use Rattle.ch_json.specs.Entries.{held, shape_of, span_of, plain_of, member_of}
-use Rattle.ch_json.specs.ReaderView.{ItemsSoFar, MembersSoFar, SeesFrames, IsArray, IsObject, SeesMode, Open, Sees, Follows, Ends, Adds, Added, Newest, nodes_of, opened}
+use Rattle.ch_json.specs.Document.{Nodes, plain, list, object, Shows, ShowsItems, ShowsMembers}
+use Rattle.ch_json.specs.Entries.{held, span_of, member_of}
+use Rattle.ch_json.specs.ReaderView.{ItemsSoFar, MembersSoFar, SeesFrames, IsArray, IsObject, SeesMode, Open, Sees, Follows, Ends, Added, Newest, nodes_of, opened}
 use Rattle.ch_json.specs.declared.reader.Mode.{Mode}
 use Rattle.ch_json.specs.declared.reader.Mode.TheVariants as mode
 use Rattle.ch_json.specs.declared.reader.Frame.{Frame}

@@ -1,11 +1,11 @@
 -- The fronts of JSON texts are the texts that are read without a fault.
-use Rattle.std.proofs.Common.{◌≡◌, ◌⊎◌, inl, inr, ℕ, zero, suc, ◌+◌, ◌-◌, ◌<◌, ◌≤◌, List, [], ◌∷◌, ◌++◌, length, length-append, append-nil, take, Bool, true, false, cond, Option, Some, None, refl, sym, ap, ap₂, ◌∙◌, subst, arith}
-use Rattle.ch_base.specs.Grammar.{Rule, Byte, ◌then◌, Many}
+use Rattle.std.proofs.Common.{◌≡◌, inl, inr, ℕ, zero, suc, ◌+◌, ◌-◌, ◌≤◌, List, [], ◌∷◌, ◌++◌, length, length-append, append-nil, Option, Some, None, refl, sym, ap, ap₂, ◌∙◌, subst, arith}
+use Rattle.ch_base.specs.Grammar.{Byte, ◌then◌}
 use Rattle.ch_base.specs.JsonTree.{Span, Plain, Tree, Items, no_items, item, Members, no_members, member}
 use Rattle.ch_base.specs.JsonTree as tree
-use Rattle.ch_base.specs.JsonText.{is_blank, Blanks, Value, SpellsWithin}
+use Rattle.ch_base.specs.JsonText.{Blanks, Value, SpellsWithin}
 use Rattle.ch_json.specs.Front.{IsFront}
-use Rattle.ch_json.specs.Scalars.{InString, InNumber, minus, may_end, RestOfNumber}
+use Rattle.ch_json.specs.Scalars.{minus, may_end, RestOfNumber}
 use Rattle.ch_json.specs.Machine.{span, Frame, in_array, in_object, Mode, value, first_item, first_key, next_key, key, colon, word, number, string, after, Outcome, go, wrong, deep, onto, onto_members, step, Goes, Made, AtValue, AtColon, AtKey, Completes, AfterStep, run, begin, finish}
 use Rattle.ch_json.proofs.Choice.{either_way, when_so}
 use Rattle.ch_json.proofs.Strings.{string_end, string_ends, string_open}

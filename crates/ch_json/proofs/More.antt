@@ -1,7 +1,7 @@
 -- What follows a part does not matter to it: the start of "a JSON text inside a text is one" (no proof of the whole is here).
-use Rattle.std.proofs.Common.{◌≡◌, ◌⊎◌, inl, inr, ℕ, List, [], ◌∷◌, ◌++◌, Bool, true, refl, sym, ap, ◌∙◌, append_assoc, subst}
+use Rattle.std.proofs.Common.{inl, inr, ℕ, List, [], ◌∷◌, ◌++◌, Bool, refl, sym, ap, ◌∙◌, append_assoc, subst}
 use Rattle.ch_base.specs.Grammar.{Rule, Many, Maybe, Byte, One, ◌then◌, ◌or◌}
-use Rattle.ch_base.specs.JsonText.{Char, spelling, Chars, is_digit, Digits, Whole, Fraction, Exponent, Number}
+use Rattle.ch_base.specs.JsonText.{Char, spelling, Chars}
 
 abbrev Extends : Rule → Type 0
 Extends R = (t r x : List ℕ) → R t r → R (t ++ x) (r ++ x)

@@ -1,12 +1,12 @@
 -- The entries of a document by the values that its nodes stand for.
-use Rattle.std.proofs.Common.{◌≡◌, ℕ, zero, suc, ◌<◌, List, [], ◌∷◌, length, get_or, map, Option, Some, None, refl, sym, ap, ◌∙◌, subst, arith}
+use Rattle.std.proofs.Common.{◌≡◌, ℕ, zero, suc, ◌<◌, List, [], ◌∷◌, length, get_or, map, Some, refl, sym, ap, ◌∙◌, subst, arith}
 use Rattle.std.specs.Prelude.{slice_get}
 use Rattle.std.proofs.lemmas.List.{length-map}
-use Rattle.std.proofs.lemmas.Option.{slice_get_within, slice_get_read}
+use Rattle.std.proofs.lemmas.Option.{slice_get_within}
 use Rattle.ch_json.proofs.Lists.{some_back, some_on, inside_some}
 use Rattle.ch_base.specs.JsonTree as tree
 use Rattle.ch_base.specs.JsonTree.{Tree, Items, no_items, item, Members, no_members, member}
-use Rattle.ch_json.specs.Document.{Shape, plain, list, object, Nodes, Document, Shows, ShowsItems, ShowsMembers}
+use Rattle.ch_json.specs.Document.{Shape, plain, list, object, Nodes, Shows, ShowsItems, ShowsMembers}
 use Rattle.ch_json.specs.Entries.{span_of, plain_of, member_of, shape_of, held}
 use Rattle.ch_json.specs.Parts.{spelled_at, items_of, members_of, values_of, names_of}
 use Rattle.ch_json.specs.NodeOf.{form_of}

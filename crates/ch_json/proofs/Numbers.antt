@@ -1,11 +1,11 @@
 -- A byte of a number, and what may follow it.
-use Rattle.std.proofs.Common.{◌≡◌, ◌⊎◌, inl, inr, ℕ, List, [], ◌∷◌, ◌++◌, Bool, true, false, not, cond, ◌&&◌, ◌||◌, ◌==◌, refl, sym, ap, ◌∙◌, subst, arith}
-use Rattle.std.proofs.lemmas.Bool.{eqb-true, and_parts}
-use Rattle.ch_base.specs.Grammar.{Rule, Byte, One, ◌then◌, ◌or◌, Maybe, Many}
-use Rattle.ch_base.specs.JsonText.{is_digit, is_digit_1_to_9, is_e, is_sign, Digits, Whole, Fraction, Exponent, Number}
+use Rattle.std.proofs.Common.{◌≡◌, ◌⊎◌, inl, inr, ℕ, List, [], ◌∷◌, ◌++◌, Bool, true, false, cond, ◌||◌, ◌==◌, refl, sym, subst, arith}
+use Rattle.std.proofs.lemmas.Bool.{eqb-true}
+use Rattle.ch_base.specs.Grammar.{Rule, ◌then◌, Maybe, Many}
+use Rattle.ch_base.specs.JsonText.{is_digit, is_digit_1_to_9, is_e, is_sign, Digits, Exponent}
 use Rattle.ch_json.specs.Scalars.{InNumber, minus, zero, whole, point, fraction, e, sign, exponent, NumberStep, more, stop, more_if, number_step, may_end, AfterWhole, AfterE, RestOfNumber, AfterNumberStep}
 use Rattle.ch_json.proofs.Choice.{either_way, when_so, when_not}
-use Rattle.ch_json.proofs.Strings.{One-cons, Byte-cons, same_eqb}
+use Rattle.ch_json.proofs.Strings.{One-cons, Byte-cons}
 
 abbrev At : List ℕ → List ℕ → NumberStep → Type 0
 At t r s = AfterNumberStep s t r

@@ -1,8 +1,8 @@
 -- A string spells one list of characters.
-use Rattle.std.proofs.Common.{◌==◌, ◌≡◌, ℕ, List, [], ◌∷◌, ◌++◌, Bool, true, false, not, ◌&&◌, ◌||◌, refl, sym, ap, ap₂, ◌∙◌, subst}
+use Rattle.std.proofs.Common.{◌==◌, ◌≡◌, ℕ, List, [], ◌∷◌, ◌++◌, true, not, ◌&&◌, ◌||◌, refl, sym, ap, ap₂, ◌∙◌, subst}
 use Rattle.std.specs.Prelude.{flat_map}
 use Rattle.std.proofs.lemmas.Bool.{and_parts}
-use Rattle.ch_base.specs.JsonText.{is_unescaped, is_short, is_char, Char, byte, short, unit, pair, spelling, Chars, meaning, Unescapes, is_d, is_8_to_b, is_c_to_f, is_hex}
+use Rattle.ch_base.specs.JsonText.{is_unescaped, is_short, is_char, Char, byte, short, unit, pair, spelling, Chars, meaning, Unescapes, is_d, is_8_to_b, is_c_to_f}
 
 pub no_quote : (x : ℕ) → is_unescaped x ≡ true → x ≡ 34 → ⊥
 no_quote x h e = let k = subst (λ y. is_unescaped y ≡ true) e h in cc k

@@ -1,13 +1,13 @@
 -- What a text spells, it spells in parts.
-use Rattle.std.proofs.Common.{◌≡◌, ℕ, zero, suc, ◌+◌, ◌-◌, ◌<◌, ◌≤◌, List, [], ◌∷◌, ◌++◌, append_assoc, length, length-append, take, drop, get_or, map, Option, Some, None, refl, sym, ap, ◌∙◌, subst, arith}
+use Rattle.std.proofs.Common.{◌≡◌, ℕ, zero, suc, ◌+◌, ◌<◌, ◌≤◌, List, [], ◌∷◌, ◌++◌, append_assoc, length, length-append, get_or, Some, refl, sym, ap, ◌∙◌, subst, arith}
 use Rattle.std.specs.Prelude.{slice_get, IsUtf8}
 use Rattle.std.specs.Str.{IsCharBoundary}
 use Rattle.std.proofs.lemmas.Str.{IsCharBoundary-before_ascii, IsCharBoundary-after_ascii}
 use Rattle.ch_base.specs.JsonTree.{Span, Tree, plain, string, array, object, Items, no_items, item, Members, no_members, member}
 use Rattle.ch_base.specs.JsonText.{Stands, Value, Items_, MoreItems, Members_, MoreMembers, Spells, max_depth}
-use Rattle.ch_json.specs.Parts.{spelled_at, items_of, members_of, values_of, names_of, part, IsSpelledIn, IsPart}
+use Rattle.ch_json.specs.Parts.{spelled_at, items_of, members_of, values_of, names_of, IsSpelledIn, IsPart}
 use Rattle.ch_json.proofs.Lists.{some_back}
-use Rattle.ch_json.proofs.Cuts.{Cut, cut_on, string_cut, blanks_cut, sign_cut, value_cut, EndsAscii, value_ends, BeginsAscii, value_begins}
+use Rattle.ch_json.proofs.Cuts.{Cut, cut_on, string_cut, blanks_cut, sign_cut, value_cut, value_ends, value_begins}
 
 -- the whole value
 pub top_spelled : (text : List ℕ) (v : Tree) → Spells text v → IsSpelledIn text v

@@ -1,16 +1,16 @@
 -- A byte of a text, and what may follow it.
-use Rattle.std.proofs.Common.{◌≡◌, ◌⊎◌, inl, inr, ℕ, zero, suc, ◌+◌, ◌-◌, ◌≤◌, List, [], ◌∷◌, ◌++◌, length, Bool, true, false, not, cond, ◌&&◌, ◌||◌, ◌==◌, refl, sym, ap, ap₂, ◌∙◌, subst, arith}
-use Rattle.std.proofs.lemmas.Bool.{eqb-true, and_parts}
-use Rattle.ch_base.specs.Grammar.{Rule, Byte, One, ◌then◌, ◌or◌, Maybe, Many}
+use Rattle.std.proofs.Common.{◌≡◌, ◌⊎◌, inl, inr, ℕ, zero, suc, ◌+◌, List, [], ◌∷◌, ◌++◌, length, Bool, true, false, ◌||◌, ◌==◌, refl, sym, ap, ap₂, ◌∙◌, subst, arith}
+use Rattle.std.proofs.lemmas.Bool.{eqb-true}
+use Rattle.ch_base.specs.Grammar.{Byte, One, ◌then◌, Many}
 use Rattle.ch_base.specs.JsonTree.{Span, Plain, Tree, Items, no_items, item, Members, no_members, member}
 use Rattle.ch_base.specs.JsonTree as tree
-use Rattle.ch_base.specs.JsonText.{is_blank, Blanks, is_digit, is_digit_1_to_9, Stands, String, Number, Value, Items_, MoreItems, Members_, MoreMembers, PlainValue, Chars}
+use Rattle.ch_base.specs.JsonText.{is_blank, Blanks, is_digit, is_digit_1_to_9, Value, Items_, MoreItems, Members_, MoreMembers, PlainValue, Chars}
 use Rattle.ch_json.specs.Scalars as scalars
 use Rattle.ch_json.specs.Scalars.{InString, chars, StringStep, ends, on, fault, string_step, RestOfString, AfterStringStep, InNumber, minus, NumberStep, more, stop, number_step, may_end, RestOfNumber, AfterNumberStep}
-use Rattle.ch_json.specs.Machine.{span, Frame, in_array, in_object, Mode, value, first_item, first_key, next_key, key, colon, word, number, string, after, Outcome, go, wrong, deep, onto, onto_members, open_bracket, start_number, start, after_step, in_word, string_outcome, key_outcome, number_outcome, step, Goes, Made, AtValue, AtColon, AtKey, Completes, AfterStep}
+use Rattle.ch_json.specs.Machine.{span, Frame, in_array, in_object, Mode, value, first_item, first_key, next_key, key, colon, word, number, string, after, Outcome, go, wrong, onto, onto_members, open_bracket, start_number, start, after_step, in_word, string_outcome, key_outcome, number_outcome, step, Goes, Made, AtValue, AtColon, AtKey, Completes, AfterStep}
 use Rattle.ch_json.proofs.Choice.{either_way, when_so, when_not}
-use Rattle.ch_json.proofs.Strings.{One-cons, Byte-cons, same_eqb, string_on, string_back}
-use Rattle.ch_json.proofs.Numbers.{EndsOr, number_on, number_back, number_ends}
+use Rattle.ch_json.proofs.Strings.{One-cons, same_eqb, string_on, string_back}
+use Rattle.ch_json.proofs.Numbers.{number_on, number_back, number_ends}
 
 abbrev At : ℕ → List ℕ → Tree → Outcome → Type 0
 At n t w o = AfterStep n o t w

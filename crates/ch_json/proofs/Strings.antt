@@ -1,9 +1,9 @@
 -- A byte of a string, and what may follow it.
-use Rattle.std.proofs.Common.{◌≡◌, ◌⊎◌, inl, inr, ℕ, List, [], ◌∷◌, ◌++◌, Bool, true, false, not, cond, ◌&&◌, ◌||◌, ◌==◌, refl, sym, ap, ◌∙◌, subst, arith}
+use Rattle.std.proofs.Common.{◌≡◌, inl, inr, ℕ, List, [], ◌∷◌, ◌++◌, Bool, true, false, not, cond, ◌&&◌, ◌||◌, ◌==◌, refl, sym, ap, subst, arith}
 use Rattle.std.proofs.lemmas.Bool.{eqb-true, and_parts}
 use Rattle.ch_base.specs.Grammar.{Rule, Byte, One, ◌then◌, ◌or◌}
-use Rattle.ch_base.specs.JsonText.{is_hex, is_d, is_8_to_b, is_c_to_f, is_unescaped, is_short, Char, byte, short, unit, pair, is_char, spelling, Chars}
-use Rattle.ch_json.specs.Scalars.{InString, chars, escape, digits4, after_d, digits3, digits2, digits1, high2, high1, low_backslash, low_u, low_first, low_second, is_other_hex, is_0_to_7, StringStep, ends, on, fault, to_if, string_step, AnyChars, RestOfString, AfterStringStep, Digits1, Digits2, Digits3, Digits4, High1, High2, LowBackslash, LowU, LowFirst, LowSecond, AfterD, Escape}
+use Rattle.ch_base.specs.JsonText.{is_hex, is_d, is_8_to_b, is_c_to_f, is_unescaped, is_short, Char, byte, short, unit, pair, Chars}
+use Rattle.ch_json.specs.Scalars.{InString, chars, escape, digits4, after_d, digits3, digits2, digits1, high2, high1, low_backslash, low_u, low_first, low_second, is_other_hex, is_0_to_7, ends, on, fault, to_if, string_step, AnyChars, RestOfString, AfterStringStep, Digits1, Digits2, Digits3, Digits4, High1, High2, LowBackslash, LowU, LowFirst, LowSecond, AfterD, Escape}
 use Rattle.ch_json.proofs.Choice.{either_way, when_so, when_not}
 
 -- the byte at the front is of the class, and the rule goes on behind it

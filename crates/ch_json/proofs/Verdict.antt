@@ -1,5 +1,5 @@
 -- What the run over a whole text says of the answer, and the public clauses from it.
-use Rattle.std.proofs.Common.{◌≡◌, ℕ, ◌+◌, ◌<◌, ◌≤◌, List, length, take, take_all, get_or, Option, Some, Result, Ok, Err, refl, sym, ap, ◌∙◌, subst}
+use Rattle.std.proofs.Common.{◌≡◌, ℕ, ◌+◌, ◌<◌, ◌≤◌, List, length, take, take_all, get_or, Some, Result, Ok, Err, refl, sym, ap, ◌∙◌, subst}
 use Rattle.std.specs.Prelude.{◌↔◌, IfOk, IsOk}
 use Rattle.ch_base.specs.JsonTree.{Tree}
 use Rattle.ch_base.specs.JsonText.{Spells, SpellsWithin, max_depth}

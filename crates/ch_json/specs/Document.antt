@@ -1,5 +1,5 @@
 -- A document: its nodes by number, and the trees that they stand for.
-use Rattle.std.specs.Prelude.{◌≡◌, ℕ, List, [], ◌∷◌, Option, Some, slice_get}
+use Rattle.std.specs.Prelude.{◌≡◌, ℕ, List, [], ◌∷◌, Some, slice_get}
 use Rattle.ch_base.specs.JsonTree as tree
 use Rattle.ch_base.specs.JsonTree.{Tree, Items, no_items, item, Members, no_members, member}
 

@@ -1,6 +1,6 @@
 -- Reading a byte at a time. Only private clauses cite it.
-use Rattle.std.specs.Prelude.{Option, Some, None, ◌≡◌, ◌⊎◌, ℕ, zero, suc, ◌+◌, List, [], ◌∷◌, ◌++◌, length, Bool, true, false, cond, ◌==◌}
-use Rattle.ch_base.specs.Grammar.{Rule, Byte, ◌then◌, Many}
+use Rattle.std.specs.Prelude.{Option, Some, None, ◌≡◌, ◌⊎◌, ℕ, zero, suc, ◌+◌, List, [], ◌∷◌, ◌++◌, length, cond, ◌==◌}
+use Rattle.ch_base.specs.Grammar.{Byte, ◌then◌}
 use Rattle.ch_base.specs.JsonTree.{Span, Plain, Tree, Items, no_items, item, Members, no_members, member}
 use Rattle.ch_base.specs.JsonTree as tree
 use Rattle.ch_base.specs.JsonText.{is_blank, Blanks, Stands, String, Value, MoreItems, MoreMembers}

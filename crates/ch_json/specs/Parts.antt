@@ -1,5 +1,5 @@
 -- The parts of a tree, and of the text that spells it.
-use Rattle.std.specs.Prelude.{◌≡◌, ◌-◌, ℕ, List, [], ◌∷◌, ◌++◌, length, map}
+use Rattle.std.specs.Prelude.{◌≡◌, ℕ, List, [], ◌∷◌, ◌++◌, length, map}
 use Rattle.std.specs.List.{slice_range}
 use Rattle.ch_base.specs.JsonTree.{Span, Tree, plain, array, object, Items, no_items, item, Members, no_members, member}
 use Rattle.ch_base.specs.JsonText.{Value}

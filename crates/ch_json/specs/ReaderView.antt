@@ -1,19 +1,16 @@
 -- What the reader's states stand for. Only private clauses cite it.
-use Rattle.std.specs.Prelude.{◌≡◌, ◌⊎◌, ℕ, zero, suc, ◌+◌, List, [], ◌∷◌, ◌++◌, length, drop, map, Option, Some, None, slice_get, Result, Ok, Err, ⊤}
+use Rattle.std.specs.Prelude.{◌≡◌, ℕ, ◌+◌, List, [], ◌∷◌, ◌++◌, length, drop, map, Some, None, Result, Ok, Err}
 use Rattle.ch_base.specs.JsonTree as tree
 use Rattle.ch_base.specs.JsonTree.{Tree, Items, no_items, item, Members, no_members, member}
 use Rattle.ch_base.specs.JsonText.{max_depth}
-use Rattle.ch_json.specs.Document.{Shape, plain, list, object, Nodes, Document, Shows, ShowsItems, ShowsMembers}
+use Rattle.ch_json.specs.Document.{Nodes, Shows}
 use Rattle.ch_json.specs.Machine as spec
 use Rattle.ch_json.specs.Machine.{Outcome, go, wrong, deep, in_array, in_object}
 use Rattle.ch_json.specs.States.{in_string_of, in_number_of}
-use Rattle.ch_json.specs.declared.span.Span.{Span}
 use Rattle.ch_json.specs.declared.entry.Plain.{Plain}
 use Rattle.ch_json.specs.declared.entry.Plain.TheVariants.{Null, False, True, Number, Str}
-use Rattle.ch_json.specs.declared.entry.Member.{Member}
 use Rattle.ch_json.specs.declared.entry.Content.{Content}
 use Rattle.ch_json.specs.Entries.{span_of, plain_of, member_of, shape_of, held}
-use Rattle.ch_json.specs.declared.entry.Entry.{Entry}
 use Rattle.ch_json.specs.declared.reader.Frame.{Frame}
 use Rattle.ch_json.specs.declared.reader.Frame.TheVariants as frame
 use Rattle.ch_json.specs.declared.reader.Mode.{Mode}

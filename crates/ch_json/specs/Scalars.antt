@@ -1,5 +1,5 @@
 -- What may follow inside a string and inside a number, a byte at a time. Only private clauses cite it.
-use Rattle.std.specs.Prelude.{◌≡◌, ◌⊎◌, ℕ, List, [], ◌∷◌, ◌++◌, Bool, true, false, not, cond, ◌&&◌, ◌||◌, ◌==◌}
+use Rattle.std.specs.Prelude.{◌≡◌, ℕ, List, Bool, true, false, not, cond, ◌&&◌, ◌||◌, ◌==◌}
 use Rattle.ch_base.specs.Grammar.{Rule, Byte, One, ◌then◌, ◌or◌, Maybe, Many}
 use Rattle.ch_base.specs.JsonText.{is_digit, is_digit_1_to_9, is_e, is_sign, Digits, Whole, Fraction, Exponent, is_hex, is_d, is_8_to_b, is_c_to_f, is_unescaped, is_short, Char, Chars}
 

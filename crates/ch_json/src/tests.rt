@@ -15,10 +15,6 @@ fn fault(alloc: Global, text: &str) -> Result<String, Fail> {
     Ok(said)
 }
 
-const OPEN_64: &str = "[[[[[[[[[[[[[[[[[[[[[[[[[[[[[[[[[[[[[[[[[[[[[[[[[[[[[[[[[[[[[[[[";
-const OPEN_65: &str = "[[[[[[[[[[[[[[[[[[[[[[[[[[[[[[[[[[[[[[[[[[[[[[[[[[[[[[[[[[[[[[[[[";
-const NEST_64: &str = "[[[[[[[[[[[[[[[[[[[[[[[[[[[[[[[[[[[[[[[[[[[[[[[[[[[[[[[[[[[[[[[[]]]]]]]]]]]]]]]]]]]]]]]]]]]]]]]]]]]]]]]]]]]]]]]]]]]]]]]]]]]]]]]]";
-
 #[test]
 fn faults(rt: HostRuntime) -> Result<(), Fail> {
     let table = [
@@ -49,13 +45,33 @@ fn faults(rt: HostRuntime) -> Result<(), Fail> {
         ("\"a", "syntax 2"),
         ("[1] 2", "syntax 4"),
         ("[1]]", "syntax 3"),
-        (OPEN_64, "syntax 64"),
-        (OPEN_65, "deep 64"),
-        (NEST_64, ""),
     ];
     for (text, want) in table {
         let got = fault(rt.alloc(), text)?;
         assert_eq!(rt; got.as_str(), want, "in {text}");
+    }
+    Ok(())
+}
+
+/// So many opening brackets, and so many closing ones.
+fn nested(alloc: Global, open: u32, close: u32) -> Result<String, Fail> {
+    let mut text = String::new(alloc);
+    for _ in 0..open {
+        text.push_str("[")?;
+    }
+    for _ in 0..close {
+        text.push_str("]")?;
+    }
+    Ok(text)
+}
+
+#[test]
+fn depths(rt: HostRuntime) -> Result<(), Fail> {
+    let table = [(64, 64, ""), (64, 0, "syntax 64"), (65, 65, "deep 64")];
+    for (open, close, want) in table {
+        let text = nested(rt.alloc(), open, close)?;
+        let got = fault(rt.alloc(), text.as_str())?;
+        assert_eq!(rt; got.as_str(), want, "at {open}");
     }
     Ok(())
 }
@@ -89,8 +105,14 @@ fn spelled(alloc: Global, text: &str) -> Result<String, Fail> {
 fn spellings(rt: HostRuntime) -> Result<(), Fail> {
     let table = [
         (" 1.50 ", "1.50"),
-        ("[ 1E+0 , -0 ,[ ],{ } , \"\\u0041\" ]", "1E+0|-0|[ ]|{ }|\"\\u0041\"|"),
-        ("{ \"a\" : 1.50 , \"\\u0061\":null}", "\"a\"=1.50|\"\\u0061\"=null|"),
+        (
+            "[ 1E+0 , -0 ,[ ],{ } , \"\\u0041\" ]",
+            "1E+0|-0|[ ]|{ }|\"\\u0041\"|",
+        ),
+        (
+            "{ \"a\" : 1.50 , \"\\u0061\":null}",
+            "\"a\"=1.50|\"\\u0061\"=null|",
+        ),
         ("[]", ""),
         ("true", "true"),
     ];
@@ -155,7 +177,10 @@ fn strings(rt: HostRuntime) -> Result<(), Fail> {
         ("\"\\\"\\\\\\/\\b\\f\\n\\r\\t\"", "\"\\/\u{8}\u{c}\n\r\t"),
         ("\"\\u00e9\\u00E9\u{e9}\"", "\u{e9}\u{e9}\u{e9}"),
         ("\"x\\uD83D\\ude00y\"", "x\u{1f600}y"),
-        ("\"\\u0000\\ud7ff\\ue000\\uffff\"", "\u{0}\u{d7ff}\u{e000}\u{ffff}"),
+        (
+            "\"\\u0000\\ud7ff\\ue000\\uffff\"",
+            "\u{0}\u{d7ff}\u{e000}\u{ffff}",
+        ),
         ("\"\\udbff\\udfff\\ud800\\udc00\"", "\u{10ffff}\u{10000}"),
     ];
     for (text, want) in table {

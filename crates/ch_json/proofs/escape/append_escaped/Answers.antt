@@ -1,10 +1,9 @@
-use Rattle.std.proofs.Common.{arith, rules, refl, sym, subst, ap, ◌∙◌, ◌≡◌, ◌<◌, ◌≤◌, ◌+◌, ◌-◌, ◌++◌, length, take, drop, get_or, ℕ, false, inl, inr}
+use Rattle.std.proofs.Common.{arith, refl, sym, subst, ap, ◌∙◌, ◌<◌, ◌≤◌, ◌++◌, length, get_or}
 use Rattle.std.proofs.lemmas.List.{take_all}
 use Rattle.std.proofs.lemmas.Result.{on_ok_weaker}
 use Rattle.std.specs.Str.{IsCharBoundary}
 use Rattle.std.proofs.lemmas.Str.{IsCharBoundary-after_ascii, IsCharBoundary-start}
-use Rattle.std.proofs.lemmas.Grind.{common_steps}
-use Rattle.ch_base.specs.Escape.{escaped, escaped_byte, needs_escape}
+use Rattle.ch_base.specs.Escape.{escaped_byte, needs_escape}
 use Rattle.ch_json.proofs.Escaped.{front_more, kept, added_part, added_last, special_ascii, plain_more}
 use Rattle.ch_json.proofs.escape.append_escaped.Goals as goal
 use Rattle.ch_json.proofs.escape.append_escaped.Goals.{then-is_special+in_ok-push_str+in_ok-push_escape, else-is_special}

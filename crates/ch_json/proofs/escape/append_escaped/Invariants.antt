@@ -1,4 +1,4 @@
-use Rattle.std.proofs.Common.{◌≡◌, ℕ, ◌<◌, ◌≤◌, ◌++◌, List, length, take, drop, get_or, false}
+use Rattle.std.proofs.Common.{◌≡◌, ℕ, ◌<◌, ◌≤◌, ◌++◌, length, take, drop, get_or, false}
 use Rattle.std.specs.Str.{IsCharBoundary}
 use Rattle.ch_base.specs.Escape.{escaped, needs_escape}
 use Rattle.ch_json.proofs.escape.append_escaped.Given as goal

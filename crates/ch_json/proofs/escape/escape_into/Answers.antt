@@ -1,4 +1,4 @@
-use Rattle.std.proofs.Common.{arith, sym, subst, ap, ◌∙◌, ◌≡◌, ◌≤◌, length, take, IsUtf8}
+use Rattle.std.proofs.Common.{arith, sym, subst, ap, ◌≡◌, ◌≤◌, length, IsUtf8}
 use Rattle.std.proofs.lemmas.List.{length-take}
 use Rattle.std.proofs.lemmas.Str.{IsCharBoundary-from_take}
 use Rattle.ch_json.proofs.escape.escape_into.Goals as goal

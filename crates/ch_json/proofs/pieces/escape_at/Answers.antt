@@ -1,4 +1,4 @@
-use Rattle.std.proofs.Common.{arith, refl, sym, subst, ap, ap₂, ◌∙◌, ◌≡◌, ◌+◌, ◌-◌, ◌*◌, ◌<◌, ◌≤◌, ℕ, length, get_or, true, false, Option, Some}
+use Rattle.std.proofs.Common.{arith, sym, subst, ap, ap₂, ◌∙◌, ◌≡◌, ◌+◌, ◌-◌, ◌*◌, ◌<◌, ◌≤◌, ℕ, length, get_or, true, false, Option, Some}
 use Rattle.std.specs.Option.{SomeIff}
 use Rattle.std.specs.Char.{IsScalar, InScalarRange}
 use Rattle.ch_base.specs.JsonText.{is_short, short_value}

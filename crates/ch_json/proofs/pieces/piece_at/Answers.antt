@@ -1,4 +1,4 @@
-use Rattle.std.proofs.Common.{arith, refl, sym, subst, ap, ◌∙◌, ◌≡◌, ◌<◌, ◌≤◌, ◌+◌, ℕ, length, get_or}
+use Rattle.std.proofs.Common.{arith, sym, subst, ap, ◌∙◌, ◌<◌, length, get_or}
 use Rattle.ch_json.proofs.Escapes.{quote_left, quote_ends, run_piece}
 use Rattle.ch_json.proofs.pieces.piece_at.Goals as goal
 

@@ -1,4 +1,4 @@
-use Rattle.std.proofs.Common.{arith, refl, sym, subst, ap, ◌∙◌, ◌≡◌, ◌++◌, [], ◌∷◌, ℕ, List, length, Bool, true, ◌==◌}
+use Rattle.std.proofs.Common.{arith, refl, sym, ap, ◌∙◌, ◌≡◌, ◌++◌, [], ◌∷◌, ℕ, List, length, Bool, true, ◌==◌}
 use Rattle.std.specs.List.{slice_range}
 use Rattle.std.proofs.lemmas.Bool.{eqb-true}
 use Rattle.ch_json.proofs.Unescaped.{so_far_first, matches_more, matches_end, matches_over, matches_not}

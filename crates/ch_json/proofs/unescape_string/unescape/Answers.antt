@@ -1,4 +1,4 @@
-use Rattle.std.proofs.Common.{sym, subst, ap, ◌∙◌, ◌≡◌, ◌++◌, string_bytes, [], ℕ, List}
+use Rattle.std.proofs.Common.{sym, subst, ap, ◌∙◌, ◌++◌, string_bytes, ℕ, List}
 use Rattle.ch_json.specs.Entries.{span_of}
 use Rattle.ch_json.specs.Pieces.{IsString}
 use Rattle.ch_json.proofs.Unescaped.{SoFar, so_far_first, so_far_more, string_of_span}

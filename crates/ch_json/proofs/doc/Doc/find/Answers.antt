@@ -1,13 +1,10 @@
-use Rattle.std.proofs.Common.{arith, refl, sym, subst, ap, ◌∙◌, ◌≡◌, ◌+◌, ◌<◌, ◌≤◌, ℕ, length, map, Some, true}
-use Rattle.std.specs.Prelude.{slice_get}
+use Rattle.std.proofs.Common.{arith, refl, sym, subst, ap, ◌∙◌, ◌≡◌, ◌+◌, ◌<◌, ℕ, length, true}
 use Rattle.std.proofs.lemmas.List.{length-map}
 use Rattle.ch_base.specs.JsonTree.{Span, Tree, plain, string, object, Members}
 use Rattle.ch_base.specs.JsonText.{Unescapes}
 use Rattle.ch_json.specs.Entries.{span_of}
-use Rattle.ch_json.specs.Parts.{part, members_of, names_of, values_of, IsSpelledIn}
+use Rattle.ch_json.specs.Parts.{part, members_of, names_of, values_of}
 use Rattle.ch_json.specs.Pieces.{IsString}
-use Rattle.ch_json.specs.NodeOf.{IsNode, form_of}
-use Rattle.ch_json.specs.declared.node.Form.{Form}
 use Rattle.ch_json.specs.declared.node.Form.TheVariants.{Object}
 use Rattle.ch_json.proofs.Lists.{inside_some, some_on}
 use Rattle.ch_json.proofs.Unescaped.{string_of_span}

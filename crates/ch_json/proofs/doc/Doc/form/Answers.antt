@@ -1,4 +1,4 @@
-use Rattle.std.proofs.Common.{arith, refl, sym, subst, ap, ◌∙◌, ◌≡◌, ◌<◌, length, map}
+use Rattle.std.proofs.Common.{arith, sym, subst, ap, ◌∙◌, ◌≡◌, ◌<◌, length, map}
 use Rattle.ch_json.specs.Document.{Document, Shows}
 use Rattle.ch_json.specs.Entries.{held}
 use Rattle.ch_json.proofs.Nodes.{node_inside, stores, stored_form}

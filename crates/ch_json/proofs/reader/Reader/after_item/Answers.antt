@@ -1,11 +1,8 @@
-use Rattle.std.proofs.Common.{arith, refl, sym, subst, ap, ◌∙◌, ◌∷◌, [], ◌++◌, ◌≡◌, ◌+◌, ◌<◌, length, map, suc, ℕ}
-use Rattle.std.proofs.lemmas.Result.{err_from_is_err_and}
+use Rattle.std.proofs.Common.{arith, refl, sym, subst, ◌∷◌, ◌+◌, suc}
 use Rattle.ch_base.specs.JsonTree as tree
 use Rattle.ch_json.specs.Machine as spec
 use Rattle.ch_json.specs.Machine.{step, start, after_step, span, in_array, in_object, onto, onto_members}
-use Rattle.ch_json.specs.Entries.{span_of, plain_of, member_of}
-use Rattle.ch_json.specs.ReaderView.{nodes_of, Follows, IsArray}
-use Rattle.ch_json.specs.States.{in_string_of, in_number_of}
+use Rattle.ch_json.specs.ReaderView.{Follows}
 use Rattle.ch_json.proofs.Follow as follow
 use Rattle.ch_json.proofs.reader.Reader.after_item.Goals as goal
 

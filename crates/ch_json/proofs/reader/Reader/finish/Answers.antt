@@ -1,5 +1,5 @@
 use Rattle.std.proofs.lemmas.Bool.{eqb-true}
-use Rattle.std.proofs.Common.{vec_len, Ok, inl, inr, arith, refl, sym, subst, ap, ◌∙◌, ◌≡◌, ℕ, length, []}
+use Rattle.std.proofs.Common.{vec_len, Ok, inl, inr, arith, refl, sym, subst, ◌∙◌, ◌≡◌}
 use Rattle.ch_json.specs.ReaderView.{Sees, Ends, Open, nodes_of}
 use Rattle.ch_json.specs.Machine.{go}
 use Rattle.ch_json.specs.States.{in_number_of}

@@ -1,11 +1,6 @@
-use Rattle.std.proofs.Common.{arith, refl, sym, subst, ap, ◌∙◌, ◌∷◌, [], ◌≡◌, ◌+◌, length, map}
-use Rattle.ch_base.specs.JsonTree as tree
+use Rattle.std.proofs.Common.{refl, sym, ap}
 use Rattle.ch_json.specs.Machine as spec
 use Rattle.ch_json.specs.Machine.{step, start, after_step, span}
-use Rattle.ch_json.specs.Entries.{span_of, plain_of, member_of}
-use Rattle.ch_json.specs.ReaderView.{nodes_of}
-use Rattle.ch_json.specs.States.{in_string_of, in_number_of}
-use Rattle.ch_json.proofs.Follow as follow
 use Rattle.ch_json.proofs.reader.Reader.in_key.Goals as goal
 
 pub returns-in-Ends : goal.returns-in-Ends
