@@ -9,14 +9,11 @@ use Rattle.std.proofs.lemmas.Bool.{and_parts, cases_lt}
 use Rattle.std.proofs.lemmas.List.{drop-drop, length-drop, get_or-drop, drop_all}
 use Rattle.ch_base.specs.JsonText.{is_hex, is_d, is_8_to_b, is_c_to_f, is_short, Char, byte, short, unit, pair, is_char, Chars, short_value, hex_value, meaning}
 use Rattle.ch_json.specs.Pieces.{GoesOn, AreHex}
+use Rattle.ch_json.proofs.Lists.{drop_front}
 use Rattle.ch_json.proofs.OneText.{no_quote, no_backslash}
 use Rattle.ch_json.proofs.Digits.{d_is_hex, unit_scalar, IsPairOf, pair_values}
 
 -- ---- a part at a place
-
-drop_front : (u m : List ℕ) → drop (length u) (u ++ m) ≡ m
-drop_front [] m = refl
-drop_front (x ∷ u) m = drop_front u m
 
 -- the bytes u stand at `at`, and m follows them
 behind : (bs u m : List ℕ) (at : ℕ) → drop at bs ≡ u ++ m → drop (at + length u) bs ≡ m

@@ -65,6 +65,14 @@ strings_from text (member name v ms) (suc i) h = strings_from text ms i (λ k m 
 pub object_strings : (text : List ℕ) (ms : Members) (s : Span) → IsSpelledIn text (object ms s) → AllStrings text ms
 object_strings text ms s h = λ i m e. (member_spelled text ms s i m h e).0
 
+-- the list of a name's values is one
+pub one_list : (text name : List ℕ) (ms : Members) (vs ws : List Tree) → Named text name ms vs → Named text name ms ws → vs ≡ ws
+one_list text name no_members vs ws h k = h ∙ sym k
+one_list text name (member key v ms) vs ws (inl (is, (r, e, h))) (inl (is2, (s, f, k))) = e ∙ ap (λ (l : List Tree). v ∷ l) (one_list text name ms r s h k) ∙ sym f
+one_list text name (member key v ms) vs ws (inl (is, h)) (inr (other, k)) = absurd (other is)
+one_list text name (member key v ms) vs ws (inr (other, h)) (inl (is, k)) = absurd (other is)
+one_list text name (member key v ms) vs ws (inr (other, h)) (inr (other2, k)) = one_list text name ms vs ws h k
+
 -- ---- the first i members
 
 -- what was found among the first i members

@@ -11,7 +11,6 @@ pub mod Cuts
 pub mod PartsOf
 pub mod Nodes
 pub mod Escaped
-pub mod More
 pub mod OneText
 pub mod Digits
 pub mod Escapes

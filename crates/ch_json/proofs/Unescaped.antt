@@ -7,6 +7,7 @@ use Rattle.ch_base.specs.JsonTree.{Span, plain, string}
 use Rattle.ch_base.specs.JsonText.{Char, spelling, Chars, meaning, Unescapes}
 use Rattle.ch_json.specs.Parts.{part, IsSpelledIn}
 use Rattle.ch_json.specs.Pieces.{IsRest, GoesOn, IsString}
+use Rattle.ch_json.proofs.Lists.{drop_front, take_front}
 use Rattle.ch_json.proofs.OneText.{one_text}
 
 -- the text so far, with what the characters from `at` on stand for
@@ -71,14 +72,6 @@ pub matches_not : (bytes : List ℕ) (at : ℕ) (name left : List ℕ) (end : �
 matches_not bytes at name left end more h g none u = none (flat_map meaning g.rest) (left_is bytes at name left h u ∙ g.says)
 
 -- ---- the string of a span
-
-drop_front : (u m : List ℕ) → drop (length u) (u ++ m) ≡ m
-drop_front [] m = refl
-drop_front (x ∷ u) m = drop_front u m
-
-take_front : (u m : List ℕ) → take (length u) (u ++ m) ≡ u
-take_front [] m = refl
-take_front (x ∷ u) m = ap (λ l. x ∷ l) (take_front u m)
 
 -- the characters without what follows them
 chars_alone : (cs : List Char) (t r : List ℕ) → Chars cs t r → (u : List ℕ) × (t ≡ u ++ r) × Chars cs u []

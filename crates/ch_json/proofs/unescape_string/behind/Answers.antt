@@ -2,11 +2,8 @@ use Rattle.std.proofs.Common.{◌≡◌, ℕ, List, [], ◌∷◌, ◌++◌, len
 use Rattle.std.specs.Prelude.{MatchOption, nat_eq}
 use Rattle.std.specs.Cmp.Lexicographic.{same_text, other_text, pointwise}
 use Rattle.std.proofs.lemmas.List.{take-append-drop}
+use Rattle.ch_json.proofs.Lists.{take_front}
 use Rattle.ch_json.proofs.unescape_string.behind.Goals as goal
-
-take_front : (u m : List ℕ) → take (length u) (u ++ m) ≡ u
-take_front [] m = refl
-take_front (x ∷ u) m = ap (λ l. x ∷ l) (take_front u m)
 
 stripped : {X : Type 0} (now : X → List ℕ) (o : Option X) (xs ps : List ℕ)
     → MatchOption o (pointwise nat_eq (take (length ps) xs) ps ≡ false) (λ x. (pointwise nat_eq (take (length ps) xs) ps ≡ true) × (now x ≡ drop (length ps) xs) × (length (now x) + length ps ≡ length xs))
