@@ -1,0 +1,13 @@
+pub mod Front
+pub mod Document
+pub mod Content
+pub mod Entries
+pub mod DocView
+pub mod Parts
+pub mod Pieces
+pub mod NodeOf
+pub mod Named
+pub mod Scalars
+pub mod Machine
+pub mod States
+pub mod ReaderView

@@ -1,0 +1,21 @@
+//! What holds of every text.
+ghost use Rattle.std.specs.Prelude.{◌≡◌, ℕ, List};
+ghost use Rattle.ch_base.specs.JsonTree.{Tree, Members};
+ghost use Rattle.ch_base.specs.JsonText.{Spells, Unescapes};
+ghost use Rattle.ch_json.specs.Named.{Named};
+
+/// A text spells at most one tree.
+pub fn one_tree()
+    ensures { (text : List ℕ) (v : Tree) (w : Tree) → Spells text v → Spells text w → v ≡ w }
+{}
+
+/// A string has at most one text.
+pub fn one_text()
+    ensures { (bytes : List ℕ) (v : List ℕ) (w : List ℕ) → Unescapes bytes v → Unescapes bytes w → v ≡ w }
+{}
+
+/// The members of an object with a name have one list of values.
+pub fn one_list()
+    ensures { (text : List ℕ) (name : List ℕ) (ms : Members) (vs : List Tree) (ws : List Tree) →
+        Named text name ms vs → Named text name ms ws → vs ≡ ws }
+{}
