@@ -10,7 +10,7 @@ use Rattle.atomic_table.specs.Table.{State, Me, step, Act, keeps, takes, gives, 
 use Rattle.atomic_table.proofs.Lists.{set_here, set_again}
 use Rattle.std.specs.declared.snapshot.Snapshot.{Snapshot}
 use Rattle.ch_base.specs.declared.entry.Entry.{Entry}
-use Rattle.ch_base.specs.Growth.{entry, NotBy}
+use Rattle.ch_base.specs.Growth.{entry}
 use Rattle.ch_turn.specs.declared.table.View.{View}
 use Rattle.ch_turn.specs.declared.table.Stage.{Stage}
 use Rattle.ch_turn.specs.declared.table.Stage.TheVariants.{Idle, Waits, Holds, Recorded}

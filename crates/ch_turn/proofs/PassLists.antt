@@ -56,8 +56,8 @@ module _ {C A : Type 0} where
         each : (j : ℕ) (p : PassModel C A) → get_or (set slots i pass) j None ≡ Some p → IsPassOf legal lock j p
         each j p at = dite (ℕ_discrete j i)
             (λ (is : j ≡ i).
-                let at' : get_or (set slots i pass) i None ≡ Some p = ap (λ k. get_or (set slots i pass) k None) (sym is) ∙ at in
-                subst (λ (k : ℕ). IsPassOf legal lock k p) (sym is) (subst (λ (o : Option (PassModel C A)). IfSome o (IsPassOf legal lock i)) (here p at') own))
+            let at' : get_or (set slots i pass) i None ≡ Some p = ap (λ k. get_or (set slots i pass) k None) (sym is) ∙ at in
+            subst (λ (k : ℕ). IsPassOf legal lock k p) (sym is) (subst (λ (o : Option (PassModel C A)). IfSome o (IsPassOf legal lock i)) (here p at') own))
             (λ other. h.1 j p (sym (get_or-set_other slots i j pass None other) ∙ at))
 
     module _ (count : length slots ≡ lock.callers) (in_place : AllInPlace legal lock slots) where
@@ -73,13 +73,13 @@ module _ {C A : Type 0} where
           → (j : ℕ) (p : PassModel C A) → j < i + 1 → get_or slots j None ≡ Some p → GrowsByOthers p.caller p.seen new
       take_over_each i pass old new there each grows now j p l at = dite (ℕ_discrete j i)
           (λ (is : j ≡ i).
-              let at' : get_or slots i None ≡ Some p = ap (λ k. get_or slots k None) (sym is) ∙ at in
-              let same : pass ≡ p = cc (there, at') in
-              subst (λ (q : PassModel C A). GrowsByOthers q.caller q.seen new) same now)
+          let at' : get_or slots i None ≡ Some p = ap (λ k. get_or slots k None) (sym is) ∙ at in
+          let same : pass ≡ p = cc (there, at') in
+          subst (λ (q : PassModel C A). GrowsByOthers q.caller q.seen new) same now)
           (λ earlier.
-              let mine = (caller_of j p at).1 in
-              let theirs = (caller_of i pass there).1 in
-              others_more p.caller p.seen old new grows.0 (each j p (omega arith) at) grows.1 (grows.2 p.caller (omega arith)))
+          let mine = (caller_of j p at).1 in
+          let theirs = (caller_of i pass there).1 in
+          others_more p.caller p.seen old new grows.0 (each j p (omega arith) at) grows.1 (grows.2 p.caller (omega arith)))
 
 -- a default is not read within a list
 pub default_any : {X : Type 0} (xs : List X) (i : ℕ) (d e : X) → i < length xs → get_or xs i d ≡ get_or xs i e

@@ -1,5 +1,5 @@
 -- A tally serves one more call.
-use Rattle.std.proofs.Common.{◌≡◌, ℕ, suc, ◌+◌, List, [], ◌∷◌, ◌++◌, length, refl, sym, ◌∙◌, arith}
+use Rattle.std.proofs.Common.{◌≡◌, ℕ, suc, ◌+◌, List, [], ◌∷◌, ◌++◌, length, ◌∙◌, arith}
 use Rattle.ch_base.specs.declared.entry.Entry.{Entry}
 use Rattle.ch_turn.specs.declared.tally.Add.{Add}
 use Rattle.ch_turn.specs.Counts.{Counts}

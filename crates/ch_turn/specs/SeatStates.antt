@@ -1,10 +1,9 @@
 -- What a seat is between the steps of a call, and while a lock begins and ends.
-use Rattle.std.specs.Prelude.{◌≡◌, ℕ, ◌+◌, ◌^◌, ◌<◌, ◌≤◌, false, List, [], ◌∷◌, ◌++◌}
+use Rattle.std.specs.Prelude.{◌≡◌, ℕ, ◌+◌, ◌^◌, ◌<◌, ◌≤◌, false, List, [], ◌∷◌}
 use Rattle.atomic_table.specs.Table.{Me}
 use Rattle.ch_base.specs.declared.entry.Entry.{Entry}
-use Rattle.ch_base.specs.Growth.{NotBy}
 use Rattle.ch_turn.specs.declared.table.View.{View}
-use Rattle.ch_turn.specs.declared.table.Stage.TheVariants.{Idle, Holds}
+use Rattle.ch_turn.specs.declared.table.Stage.TheVariants.{Idle}
 use Rattle.ch_turn.specs.declared.table.Slot.{Slot}
 use Rattle.ch_turn.specs.declared.table.Slot.TheVariants.{Taken}
 use Rattle.ch_turn.specs.Tickets.{HasTurn}

@@ -1,4 +1,4 @@
-use Rattle.std.proofs.Common.{◌≡◌, ℕ, ◌<◌, ◌≤◌, length, slice_index_or, None, Some}
+use Rattle.std.proofs.Common.{◌≡◌, ℕ, ◌<◌, ◌≤◌, slice_index_or, None, Some}
 use Rattle.ch_turn.specs.SeatStates.{Gathered}
 use Rattle.ch_turn.specs.PassModels.{PassModel, GrowsByOthers}
 use Rattle.ch_turn.proofs.closing.gather.Given as goal

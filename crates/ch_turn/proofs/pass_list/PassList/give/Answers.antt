@@ -1,4 +1,4 @@
-use Rattle.std.proofs.Common.{rules, ◌≡◌, Option, Some, IfSome, ap, ◌∙◌, sym, subst}
+use Rattle.std.proofs.Common.{Option, IfSome, ap, ◌∙◌, sym, subst}
 use Rattle.ch_turn.specs.PassModels.{PassModel, IsPassOf}
 use Rattle.ch_turn.proofs.PassLists.{set_in_place}
 use Rattle.ch_turn.proofs.pass_list.PassList.give.Goals as goal

@@ -1,4 +1,4 @@
-use Rattle.std.proofs.Common.{◌≡◌, length, ◌+◌, [], ◌∷◌, length-append, arith}
+use Rattle.std.proofs.Common.{[], ◌∷◌, length-append, arith}
 use Rattle.ch_turn.proofs.Tallies.{counts_push}
 use Rattle.ch_turn.proofs.tally.TallyServed.serve.Goals as goal
 
