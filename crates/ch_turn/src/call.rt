@@ -47,10 +47,14 @@ fn commit<T: Served>(
 )
     requires table { (seat.old.table_id ≡ table.now.table_id) × (table.now.table_id.words ≡ 3) }
     requires turn { ((t : ℕ) × (seat.old.me.0.stage ≡ Holds t)) × (seat.old.me.1 ≡ (0, Taken) ∷ []) }
-    requires legal { T.legal seat.old.me.0.place (seat.old.me.0.seen ++ own seat.old.me.0.low call.now outcome.now) }
+    requires legal { T.legal seat.old.me.0.place
+        (seat.old.me.0.seen ++ own seat.old.me.0.low call.now outcome.now) }
     ensures table { (seat.new.table_id ≡ seat.old.table_id) × (seat.new.id ≡ seat.old.id) }
     ensures slot { HasSlot seat.new.me }
-    ensures view { seat.new.me.0 ≡ record seat.old.me.0 { stage = seat.new.me.0.stage; seen = seat.old.me.0.seen ++ own seat.old.me.0.low call.now outcome.now } }
+    ensures view { seat.new.me.0 ≡ record seat.old.me.0 {
+      stage = seat.new.me.0.stage;
+      seen = seat.old.me.0.seen ++ own seat.old.me.0.low call.now outcome.now;
+    } }
 {
     if let Ok(answer) = outcome {
         let pending = Slot::Pending(Snapshot::of(call), Snapshot::of(answer));
@@ -85,7 +89,13 @@ pub(crate) fn serve_in_turn<T: Served, R: Wait>(
     requires caller { (caller ≡ seat.old.me.0.low) × (caller < 64) }
     requires fits { T.fits seat.old.me.0.place call.now }
     ensures table { (seat.new.table_id ≡ seat.old.table_id) × (seat.new.id ≡ seat.old.id) }
-    ensures view { seat.new.me ≡ (record seat.old.me.0 { seen = seat.new.me.0.seen; calls = seat.old.me.0.calls + 1 }, []) }
+    ensures view { seat.new.me ≡ (
+      record seat.old.me.0 {
+        seen = seat.new.me.0.seen;
+        calls = seat.old.me.0.calls + 1;
+      },
+      [],
+    ) }
     ensures grows { GrowsBy caller call.now result seat.old.me.0.seen seat.new.me.0.seen }
     ensures legal { T.legal seat.old.me.0.place seat.new.me.0.seen }
     ensures sure { T.sure call.now → IsOk result }

@@ -20,11 +20,14 @@ pub struct Closed<T> {
 
 /// Takes over the seat of a pass, the next in order.
 fn take_over<T: Served>(table: &SharedTable<T>, seat: &mut LockSeat<T>, pass: Pass<T>)
-    requires table { (seat.old.table_id ≡ table.now.table_id) × (table.now.table_id.words ≡ 3) × (pass.table ≡ table.now.table_id) }
+    requires table { (seat.old.table_id ≡ table.now.table_id) × (table.now.table_id.words ≡ 3) }
+    requires own { pass.table ≡ table.now.table_id }
     requires gathered { Gathered seat.old.me.0 pass.caller }
     ensures table { seat.new.table_id ≡ seat.old.table_id }
     ensures gathered { Gathered seat.new.me.0 (pass.caller + 1) }
-    ensures before { (more : List (Entry T.Call T.Answer)) × (seat.old.me.0.seen ++ more ≡ seat.new.me.0.seen) × ((i : ℕ) → i < pass.caller → NotBy i more) }
+    ensures before { (more : List (Entry T.Call T.Answer))
+        × (seat.old.me.0.seen ++ more ≡ seat.new.me.0.seen)
+        × ((i : ℕ) → i < pass.caller → NotBy i more) }
     ensures pass { GrowsByOthers pass.caller pass.seen seat.new.me.0.seen }
 {
     let Pass {
@@ -44,7 +47,8 @@ pub(crate) fn gather<T: Served>(table: &SharedTable<T>, mut passes: PassList<T>)
     ensures table { result.table_id ≡ table.now.table_id }
     ensures gathered { Gathered result.me.0 table.now.key.callers }
     ensures each { EachGrowsByOthers passes.slots result.me.0.seen }
-    ensures callers { (i : ℕ) (p : PassModel T.Call T.Answer) → slice_index_or passes.slots i None ≡ Some p → p.caller < table.now.key.callers }
+    ensures callers { (i : ℕ) (p : PassModel T.Call T.Answer)
+        → slice_index_or passes.slots i None ≡ Some p → p.caller < table.now.key.callers }
 {
     let callers = passes.passes.len() as u64;
     let Some(first) = passes.take(0) else {

@@ -33,9 +33,15 @@ impl<T: Served> Model for TurnLock<T> {
 
     ghost Value = { LockModel };
 
-    ghost view = { λ l. record { table = l.table.shared.table_id; callers = l.table.shared.key.callers; place = T.place l.table.shared.key.value.value } };
+    ghost view = { λ l. record {
+      table = l.table.shared.table_id;
+      callers = l.table.shared.key.callers;
+      place = T.place l.table.shared.key.value.value;
+    } };
 
-    ghost invariant = { λ l. (l.table.shared.table_id.words ≡ 3) × (l.table.shared.table_id.slots ≡ 1) × (0 < l.table.shared.key.callers) };
+    ghost invariant = { λ l. (l.table.shared.table_id.words ≡ 3)
+        × (l.table.shared.table_id.slots ≡ 1)
+        × (0 < l.table.shared.key.callers) };
 }
 
 impl<T: Served> TurnLock<T> {
@@ -46,7 +52,8 @@ impl<T: Served> TurnLock<T> {
         ensures lock { IfOk result (λ made. (made.0.callers ≡ callers) × (made.0.place ≡ T.place value)) }
         ensures own { IfOk result (λ made. made.1.lock ≡ made.0) }
         ensures count { IfOk result (λ made. length made.1.slots ≡ callers) }
-        ensures passes { IfOk result (λ made. (i : ℕ) → i < callers → slice_index_or made.1.slots i None ≡ Some (fresh_pass made.0 i)) }
+        ensures passes { IfOk result (λ made. (i : ℕ) → i < callers
+            → slice_index_or made.1.slots i None ≡ Some (fresh_pass made.0.table made.0.place i)) }
     {
         let passes = Vec::with_capacity(alloc, callers as usize)?;
         let (table, seat) = lay_table(alloc, value, callers)?;

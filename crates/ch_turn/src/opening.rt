@@ -2,7 +2,7 @@
 ghost use Rattle.std.specs.Prelude.{◌≡◌, ℕ, ◌<◌, ◌≤◌, [], length, slice_index_or, None, Some, IfOk, vec_capacity};
 ghost use Rattle.ch_turn.specs.Views.{first_view};
 ghost use Rattle.ch_turn.specs.SeatStates.{dealer_view};
-ghost use Rattle.ch_turn.specs.PassModels.{PassModel};
+ghost use Rattle.ch_turn.specs.PassModels.{fresh_pass};
 
 use crate::pass::Pass;
 use crate::steps::Deal;
@@ -21,7 +21,8 @@ pub(crate) fn lay_table<T: Served>(
     requires callers { callers ≤ 64 }
     requires empty { T.stands value [] }
     ensures sizes { IfOk result (λ r. (r.0.shared.table_id.words ≡ 3) × (r.0.shared.table_id.slots ≡ 1)) }
-    ensures opening { IfOk result (λ r. (r.0.shared.key.callers ≡ callers) × (T.place r.0.shared.key.value.value ≡ T.place value)) }
+    ensures callers { IfOk result (λ r. r.0.shared.key.callers ≡ callers) }
+    ensures place { IfOk result (λ r. T.place r.0.shared.key.value.value ≡ T.place value) }
     ensures seat { IfOk result (λ r. (r.1.table_id ≡ r.0.shared.table_id) × (r.1.me ≡ (first_view (T.place value) callers, []))) }
 {
     let opening = Opening {
@@ -49,7 +50,7 @@ pub(crate) fn deal_passes<T: Served>(
     requires callers { (0 < callers) × (callers ≤ 64) }
     requires legal { T.legal seat.me.0.place [] }
     ensures count { length result.items ≡ callers }
-    ensures each { (i : ℕ) → i < callers → slice_index_or result.items i None ≡ Some (record { table = seat.table_id; place = seat.me.0.place; caller = i; seen = []; calls = 0 }) }
+    ensures each { (i : ℕ) → i < callers → slice_index_or result.items i None ≡ Some (fresh_pass seat.table_id seat.me.0.place i) }
 {
     for caller in 0..callers - 1 {
         let own = table.split_seat::<Deal>(&mut seat);

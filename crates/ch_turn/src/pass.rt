@@ -22,7 +22,13 @@ impl<T: Served> Model for Pass<T> {
 
     ghost Value = { PassModel T.Call T.Answer };
 
-    ghost view = { λ p. record { table = p.seat.table_id; place = p.seat.me.0.place; caller = p.caller; seen = p.seat.me.0.seen; calls = p.calls } };
+    ghost view = { λ p. record {
+      table = p.seat.table_id;
+      place = p.seat.me.0.place;
+      caller = p.caller;
+      seen = p.seat.me.0.seen;
+      calls = p.calls;
+    } };
 
     ghost invariant = { λ p. IsPassSeat T.legal p.seat.me p.caller p.calls };
 }

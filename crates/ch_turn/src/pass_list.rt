@@ -23,7 +23,8 @@ impl<T: Served> Model for PassList<T> {
 
     ghost view = { λ l. record { lock = l.lock.value; slots = l.passes.items } };
 
-    ghost invariant = { λ l. (length l.passes.items ≡ l.lock.value.callers) × AllInPlace T.legal l.lock.value l.passes.items };
+    ghost invariant = { λ l. (length l.passes.items ≡ l.lock.value.callers)
+        × AllInPlace T.legal l.lock.value l.passes.items };
 }
 
 impl<T: Served> PassList<T> {
