@@ -1,0 +1,12 @@
+pub mod Numbering
+pub mod Entries
+pub mod ViewLists
+pub mod RuleParts
+pub mod CallSteps
+pub mod SeatSteps
+pub mod TableEnds
+pub mod PendingCalls
+pub mod PassLists
+pub mod Tallies
+pub mod Crossing
+pub mod TallyCrossing
