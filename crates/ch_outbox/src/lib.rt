@@ -8,3 +8,6 @@ mod outbox;
 mod queue;
 
 pub use outbox::Outbox;
+
+#[cfg(test)]
+mod tests;

@@ -1,3 +1,5 @@
+pub mod Calls
 pub mod Numbers
 pub mod Reading
 pub mod Running
+pub mod Strips

@@ -5,7 +5,7 @@ use Rattle.std.specs.Fmt.{decimal}
 use Rattle.std.specs.Str.Parse.{digits_value}
 use Rattle.std.proofs.lemmas.Bool.{leb-true}
 use Rattle.std.proofs.lemmas.Slice.Eq.{bytes_eq-Decides}
-use Rattle.ch_transcript.specs.Commands.{moment_in, latest_moment}
+use Rattle.ch_transcript.specs.Commands.{number_in, latest_moment}
 
 and_left : (a b : Bool) → (a && b) ≡ true → a ≡ true
 and_left true b h = refl
@@ -23,8 +23,8 @@ pub texts_differ : (xs ys : List ℕ) → bytes_eq xs ys ≡ false → xs ≡ ys
 texts_differ xs ys is e = absurd (let h : bytes_eq xs ys ≡ true = (bytes_eq-Decides xs ys).1 e in cc)
 
 -- what is the text of no number is none
-pub moment_in-none : (bs : List ℕ) → ((n : ℕ) → n ≤ latest_moment → bs ≡ decimal n → ⊥) → None ≡ moment_in bs
-moment_in-none bs h =
+pub number_in-none : (bs : List ℕ) → ((n : ℕ) → n ≤ latest_moment → bs ≡ decimal n → ⊥) → None ≡ number_in bs
+number_in-none bs h =
     let v = digits_value 10 bs in
     let t = nat_le v latest_moment && bytes_eq (decimal v) bs in
     (elim t as (λ (b : Bool). t ≡ b → None ≡ cond b (Some v) None) [

@@ -5,6 +5,7 @@
 //! definition of a transcript's output in `ch_transcript`.
 #![tactic(auto)]
 
+mod forms;
 mod line_reader;
 mod parsing;
 mod player;

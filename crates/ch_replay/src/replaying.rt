@@ -78,7 +78,9 @@ fn replay_lines<S: Source, K: Sink>(alloc: Global, source: &mut S, sink: &mut K)
     ensures read_fault { result ≡ Ending.ReadFailed → Rose (S.faults source.old) (S.faults source.new) }
     ensures write_fault { result ≡ Ending.WriteFailed → Rose (K.faults sink.old) (K.faults sink.new) }
 {
-    let mut player = Player::new(alloc);
+    let Ok(mut player) = Player::new(alloc) else {
+        return Ending::Memory;
+    };
     let mut reader = LineReader::new();
     let mut line = Vec::new(alloc);
     let mut out = Vec::new(alloc);

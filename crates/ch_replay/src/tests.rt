@@ -12,6 +12,15 @@ const FIRST: &str =
 const BOTH: &str =
     "1 {\"event\":\"pusher:connection_established\",\"data\":\"{\\\"socket_id\\\":\\\"1.1\\\",\\\"activity_timeout\\\":120}\"}\n2 {\"event\":\"pusher:connection_established\",\"data\":\"{\\\"socket_id\\\":\\\"1.2\\\",\\\"activity_timeout\\\":120}\"}\n";
 
+const ONE_PUBLISH: &str =
+    "0 open /app/k?protocol=7\n0 open /app/k?protocol=7\n1 say 1 {\"event\":\"pusher:subscribe\",\"data\":{\"auth\":\"\",\"channel\":\"a\"}}\n1 say 2 {\"event\":\"pusher:subscribe\",\"data\":{\"channel\":\"a\"}}\n2 publish a e \"hi\"\n";
+
+const ONE_PUBLISH_OUTPUT: &str =
+    "1 {\"event\":\"pusher:connection_established\",\"data\":\"{\\\"socket_id\\\":\\\"1.1\\\",\\\"activity_timeout\\\":120}\"}\n2 {\"event\":\"pusher:connection_established\",\"data\":\"{\\\"socket_id\\\":\\\"1.2\\\",\\\"activity_timeout\\\":120}\"}\n1 {\"event\":\"pusher_internal:subscription_succeeded\",\"channel\":\"a\",\"data\":\"{}\"}\n2 {\"event\":\"pusher_internal:subscription_succeeded\",\"channel\":\"a\",\"data\":\"{}\"}\nsent 2 0\n1 {\"event\":\"e\",\"channel\":\"a\",\"data\":\"hi\"}\n2 {\"event\":\"e\",\"channel\":\"a\",\"data\":\"hi\"}\n";
+
+const ALREADY: &str =
+    "1 {\"event\":\"pusher:error\",\"data\":{\"message\":\"already subscribed\",\"code\":4313}}\n";
+
 fn words(alloc: Global, words: &[&str]) -> Result<Vec<Text>, Fail> {
     let mut texts = Vec::new(alloc);
     for word in words {
@@ -54,6 +63,20 @@ fn transcripts_give_their_status_and_output(rt: HostRuntime) -> Result<(), Fail>
             "error line 1\n",
         ),
         ("0 open /app/k?protocol=7 \n", 4, "error line 1\n"),
+        (ONE_PUBLISH, 0, ONE_PUBLISH_OUTPUT),
+        (
+            "0 open /app/k?protocol=7\n0 say 1 {\"event\":\"pusher:subscribe\",\"data\":{\"channel\":\"a\"}}\n0 say 1 {\"event\":\"pusher:subscribe\",\"data\":{\"channel\":\"a\"}}\n",
+            0,
+            ALREADY,
+        ),
+        ("0 publish a e \"hi\"\n", 0, "sent 0 0\n"),
+        ("0 publish presence-a e \"hi\"\n", 4, "error line 1\n"),
+        ("0 publish a e \"h\"i\"\n", 4, "error line 1\n"),
+        (
+            "0 say 1 {\"event\":\"pusher:subscribe\",\"data\":{\"channel\":\"a\"}}\n",
+            4,
+            "error line 1\n",
+        ),
     ];
     let words = words(alloc, &["replay"])?;
     for (text, status, end) in rows {

@@ -61,7 +61,7 @@ joins_anew old new kept w socket c at public off changes =
       subs = changes.subs ∙ ap (λ ys. ys ++ n ∷ []) (sym (filter-none (λ s. settles s e) old.subs none));
       frames = λ v. changes.frames v
           ∙ sym (ap₂ (λ p q. frames_of old.outbox v ++ for_owner v ((to (cond p (Present c (rows_in c (on_channel new.subs c))) (Succeeded c)) n ∷ cond q (to (latest_frame c (kept c)) n ∷ []) []) ++ []))
-              (no_members c public) (keeps_nothing c public));
+          (no_members c public) (keeps_nothing c public));
     }
 
 joins_again : (old new : Kept) (kept : List ℕ → Option Cached) (w socket : ℕ) (c : List ℕ) (at : ℕ) → is_on old.subs socket c ≡ true → IsUnchanged old new

@@ -14,3 +14,6 @@ mod shard;
 mod subscriptions;
 
 pub use shard::ChanShard;
+
+#[cfg(test)]
+mod tests;

@@ -1,27 +1,39 @@
 -- What a replay of a transcript writes, and its status: a fold over the lines.
-use Rattle.std.specs.Prelude.{ℕ, Bool, ◌+◌, nat_le, nat_lt, List, [], ◌∷◌, ◌++◌, length, Option, Some, None, if◌then◌else◌}
+use Rattle.std.specs.Prelude.{ℕ, Bool, ◌+◌, ◌&&◌, nat_le, nat_lt, List, [], ◌∷◌, ◌++◌, length, flat_map, Option, Some, None, if◌then◌else◌}
+use Rattle.ch_base.specs.Growth.{entry}
+use Rattle.ch_base.specs.declared.channel.ChanAnswer.{ChanAnswer}
+use Rattle.ch_base.specs.declared.channel.ChanCall.{ChanCall}
+use Rattle.ch_base.specs.declared.channel.ChanCall.TheVariants.{Take, Join, Publish as PublishCall}
+use Rattle.ch_history.specs.Entries.{ChanHistory}
+use Rattle.ch_history.specs.Frames.{waiting}
+use Rattle.ch_history.specs.Answers.{answer_of}
 use Rattle.ch_transcript.specs.declared.commands.Command.{Command}
-use Rattle.ch_transcript.specs.declared.commands.Command.TheVariants.{Open}
+use Rattle.ch_transcript.specs.declared.commands.Command.TheVariants.{Open, Say, Publish}
 use Rattle.ch_transcript.specs.declared.commands.Line.{Line}
 use Rattle.ch_transcript.specs.declared.commands.Line.TheVariants.{Skipped, Timed, Bad}
 use Rattle.ch_transcript.specs.Lines.{longest_line, lines_of}
 use Rattle.ch_transcript.specs.Commands.{line_of}
-use Rattle.ch_transcript.specs.Printing.{opened_text, socket_line, error_line, long_line}
+use Rattle.ch_transcript.specs.Printing.{opened_text, socket_line, frame_line, joined_text, sent_text, error_line, long_line}
 
 -- ---- one line
 
--- how far a transcript has come: the moment of the last line, and the number of sockets
+-- how far a transcript has come: the moment of the last line, the number of sockets, and the history of the one shard
 pub record Progress : Type 0 where
   pub at : ℕ
   pub opened : ℕ
+  pub history : ChanHistory
 
 abbrev pub beginning : Progress
-beginning = record { at = 0; opened = 0 }
+beginning = record { at = 0; opened = 0; history = [] }
 
 -- what a line writes, and how far the transcript has come then
 pub record Played : Type 0 where
   pub text : List ℕ
   pub next : Progress
+
+-- the history with one more call of caller 0, which is answered as it has to be
+abbrev pub called : ChanHistory → ChanCall → ChanHistory
+called h call = h ++ entry 0 call (answer_of h 0 call) ∷ []
 
 -- the most lines that open a connection
 abbrev pub most_opened : ℕ
@@ -31,17 +43,40 @@ most_opened = 65536
 abbrev pub opens : Progress → ℕ → Option Played
 opens p at =
     if nat_lt p.opened most_opened
-    then Some (record { text = socket_line (p.opened + 1) (opened_text (p.opened + 1)); next = record { at = at; opened = p.opened + 1 } })
+    then Some (record { text = socket_line (p.opened + 1) (opened_text (p.opened + 1)); next = record { at = at; opened = p.opened + 1; history = p.history } })
     else None
 
--- what a command writes at the moment; none where it may not stand here
+-- a call is made, and its answer written
+abbrev pub asks : Progress → ℕ → ChanCall → (ChanAnswer → List ℕ) → Option Played
+asks p at call text =
+    Some (record { text = text (answer_of p.history 0 call); next = record { at = at; opened = p.opened; history = called p.history call } })
+
+-- one of the sockets subscribes
+abbrev pub says : Progress → ℕ → ℕ → List ℕ → Option Played
+says p at number channel =
+    if nat_le 1 number && nat_le number p.opened then asks p at (Join number channel None at) (joined_text number) else None
+
+-- what a command writes of its own at the moment; none where it may not stand here
 abbrev pub obeyed : Progress → ℕ → Command → Option Played
 obeyed p at Open = opens p at
+obeyed p at (Say number channel) = says p at number channel
+obeyed p at (Publish channel event body) = asks p at (PublishCall channel event body None at) sent_text
+
+-- the end of a line: the frames that wait are taken and printed
+abbrev pub with_round : Played → Played
+with_round x = record {
+  text = x.text ++ flat_map frame_line (waiting x.next.history 0);
+  next = record { at = x.next.at; opened = x.next.opened; history = called x.next.history Take };
+}
+
+abbrev pub rounded : Option Played → Option Played
+rounded None = None
+rounded (Some x) = Some (with_round x)
 
 -- what a line writes by what it says; no line goes back in time
 abbrev pub played_as : Progress → Line → Option Played
 played_as p Skipped = Some (record { text = []; next = p })
-played_as p (Timed at command) = if nat_le p.at at then obeyed p at command else None
+played_as p (Timed at command) = if nat_le p.at at then rounded (obeyed p at command) else None
 played_as p Bad = None
 
 -- what the line writes; none where it is no transcript line here

@@ -1,8 +1,21 @@
+use ch_base::Text;
+
 /// What a line of a transcript asks for.
 #[derive(Debug, Drop)]
 pub enum Command {
     /// A connection is opened, with the next number.
     Open,
+    /// The socket with this number says that it subscribes to a public channel.
+    Say {
+        number: u64,
+        channel: Text,
+    },
+    /// A back end publishes an event on a public channel; `body` is a JSON string without escapes.
+    Publish {
+        channel: Text,
+        event: Text,
+        body: Text,
+    },
 }
 
 /// A line of a transcript.

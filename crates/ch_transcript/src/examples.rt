@@ -1,6 +1,8 @@
-ghost use Rattle.ch_transcript.specs.Examples.{Examples, examples};
+ghost use Rattle.ch_transcript.specs.Examples.{Lines, OnePublish, TwiceOn};
 
-/// The examples of the definitions hold.
+/// Transcripts write what the definitions compute.
 pub fn examples_hold()
-    ensures { Examples }
+    ensures lines { Lines }
+    ensures one_publish { OnePublish }
+    ensures twice_on { TwiceOn }
 {}

@@ -2,11 +2,14 @@ use Rattle.std.proofs.Common.{◌≡◌, ◌≤◌, ◌^◌, ◌+◌, ◌-◌, m
 use Rattle.ch_io.specs.Counts.{Rose}
 use Rattle.ch_transcript.specs.Transcript.{played}
 use Rattle.ch_replay.specs.Serving.{Serves, Stops}
-use Rattle.ch_replay.proofs.Running.{Runs, Runs-begin, Runs-line, Runs-ended, Runs-failed, Runs-memory, Runs-last, Runs-stop, Runs-stop_last, Runs-long, Runs-smaller, no_read_failed}
+use Rattle.ch_replay.proofs.Running.{Runs, Runs-begin, Runs-line, Runs-ended, Runs-failed, Runs-memory, Runs-last, Runs-stop, Runs-stop_last, Runs-long, Runs-smaller, no_read_failed, nothing_ran}
 use Rattle.ch_replay.proofs.replaying.replay_lines.Goals as goal
 
 earlier : (a b d : ℕ) → a ≤ b → Rose b d → Rose a d
 earlier a b d h r = omega arith
+
+pub returns-in_default-clause-ran : goal.returns-in_default-clause-ran
+returns-in_default-clause-ran g c = nothing_ran _ _ _
 
 pub lines-smaller : goal.lines-smaller
 lines-smaller g c = Runs-smaller c.in-Whole.ensures.gives
@@ -16,9 +19,9 @@ lines-preserved g c =
     let r = c.lines.invariant.runs in
     let P : List ℕ → Type 0 = λ z. Serves c.serve.new.player (g.K.Sink.told c.lines.sink) (g.K.Sink.told c.serve.new.sink) (played r.p z) in
     record {
-      runs = Runs-line r c.in-Whole.ensures.gives (subst P c.as_slice.ensures.value (c.in-Ok.ensures.serves r.p r.is));
+      runs = Runs-line r c.in-Whole.ensures.gives (subst P c.as_slice.ensures.value (c.in-Ok-serve.ensures.serves r.p r.is));
       read = omega (arith, c.lines.invariant.read, c.in-Whole.ensures.later);
-      wrote = omega (arith, c.lines.invariant.wrote, c.in-Ok.ensures.later);
+      wrote = omega (arith, c.lines.invariant.wrote, c.in-Ok-serve.ensures.later);
     }
 
 pub returns-in-Err-clause-ran : goal.returns-in-Err-clause-ran
@@ -41,11 +44,11 @@ returns-in-Failed-clause-ran g c = Runs-failed c.lines.invariant.runs c.in-Faile
 pub returns-in-Memory-clause-ran : goal.returns-in-Memory-clause-ran
 returns-in-Memory-clause-ran g c = Runs-memory c.lines.invariant.runs c.in-Memory.ensures.gives
 
-pub returns-in-Ok-serve-clause-ran : goal.returns-in-Ok-serve-clause-ran
-returns-in-Ok-serve-clause-ran g c =
+pub returns-in-Ok-serve-2-clause-ran : goal.returns-in-Ok-serve-2-clause-ran
+returns-in-Ok-serve-2-clause-ran g c =
     let r = c.lines.invariant.runs in
     let P : List ℕ → Type 0 = λ z. Serves c.serve-in-Last.new.player (g.K.Sink.told c.lines.sink) (g.K.Sink.told c.serve-in-Last.new.sink) (played r.p z) in
-    Runs-last r c.in-Last.ensures.gives (subst P c.as_slice-in-Last.ensures.value (c.in-Ok-serve.ensures.serves r.p r.is))
+    Runs-last r c.in-Last.ensures.gives (subst P c.as_slice-in-Last.ensures.value (c.in-Ok-serve-2.ensures.serves r.p r.is))
 
 pub returns-in-Err-serve-clause-ran : goal.returns-in-Err-serve-clause-ran
 returns-in-Err-serve-clause-ran g c =

@@ -1,5 +1,11 @@
-use Rattle.ch_transcript.specs.Examples.{examples}
+use Rattle.ch_transcript.proofs.Computed as shown
 use Rattle.ch_transcript.proofs.examples.examples_hold.Goals as goal
 
-pub returns : goal.returns
-returns c = examples
+pub returns-clause-lines : goal.returns-clause-lines
+returns-clause-lines c = shown.lines
+
+pub returns-clause-one_publish : goal.returns-clause-one_publish
+returns-clause-one_publish c = shown.one_publish
+
+pub returns-clause-twice_on : goal.returns-clause-twice_on
+returns-clause-twice_on c = shown.twice_on

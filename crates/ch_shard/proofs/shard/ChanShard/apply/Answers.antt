@@ -11,13 +11,13 @@ returns-in-Join-clause-stands c = λ h stands.
     let formed = subst IsWellFormed c.in-Join.is c.requires.formed in
     let served = subst IsServed c.in-Join.is c.requires.served in
     Stands-served _ _ h _ _ (JoinGives c.args.self.now c.join.new.self c.args.caller c.in-Join.socket c.in-Join.channel) _ c.requires.caller c.requires.formed stands
-        (λ a gives. Moves-as _ _ _ _ _ _ a c.in-Join.is (joins _ _ _ _ _ _ _ _ a formed served gives)) c.join.ensures
+    (λ a gives. Moves-as _ _ _ _ _ _ a c.in-Join.is (joins _ _ _ _ _ _ _ _ a formed served gives)) c.join.ensures
 
 pub returns-in-Publish-clause-stands : goal.returns-in-Publish-clause-stands
 returns-in-Publish-clause-stands c = λ h stands.
     let served = subst IsServed c.in-Publish.is c.requires.served in
     Stands-served _ _ h _ _ (PublishGives c.args.self.now c.publish.new.self c.in-Publish.channel c.in-Publish.event c.in-Publish.body c.in-Publish.except) _ c.requires.caller c.requires.formed stands
-        (λ a gives. Moves-as _ _ _ _ _ _ a c.in-Publish.is (publishes _ _ _ _ _ _ _ _ _ a served gives)) c.publish.ensures
+    (λ a gives. Moves-as _ _ _ _ _ _ a c.in-Publish.is (publishes _ _ _ _ _ _ _ _ _ a served gives)) c.publish.ensures
 
 pub returns-in-Take-clause-stands : goal.returns-in-Take-clause-stands
 returns-in-Take-clause-stands c = λ h stands.
