@@ -1,7 +1,10 @@
 -- The value that a form is the form of.
-use Rattle.std.proofs.Common.{◌≡◌, ℕ, length, refl}
+use Rattle.std.proofs.Common.{◌≡◌, ◌<◌, ℕ, length, Some, refl, sym, subst, arith}
 use Rattle.ch_base.specs.JsonTree.{Span, null, no, yes, number, string, Tree, plain, array, object, Items, Members}
-use Rattle.ch_json.specs.Parts.{items_of, members_of}
+use Rattle.std.specs.Prelude.{slice_get}
+use Rattle.std.proofs.lemmas.List.{length-map}
+use Rattle.ch_json.specs.Parts.{items_of, members_of, values_of, names_of}
+use Rattle.ch_json.proofs.Lists.{inside_some}
 use Rattle.ch_json.specs.NodeOf.{form_of}
 use Rattle.ch_json.specs.declared.node.Form.TheVariants as form
 
@@ -31,3 +34,26 @@ string_from_form (plain number s) e = absurd (cc)
 string_from_form (plain string s) e = (s, refl)
 string_from_form (array vs s) e = absurd (cc)
 string_from_form (object ms s) e = absurd (cc)
+
+-- the i-th value of an array
+pub list_value : (v : Tree) (n i : ℕ) → form.List n ≡ form_of v → i < n → (i < length (values_of v)) × ((w : Tree) × (slice_get (values_of v) i ≡ Some w))
+list_value v n i e lt =
+    let k = array_from_form v n e in
+    let inside : i < length (values_of v) = subst (λ y. i < length (values_of y)) (sym k.2) (omega (arith, k.3)) in
+    (inside, inside_some (values_of v) i inside)
+
+-- the value of the i-th member of an object
+pub member_value : (v : Tree) (n i : ℕ) → form.Object n ≡ form_of v → i < n → (i < length (values_of v)) × ((w : Tree) × (slice_get (values_of v) i ≡ Some w))
+member_value v n i e lt =
+    let k = object_from_form v n e in
+    let count : length (values_of (object k.0 k.1)) ≡ length (members_of k.0) = simp length-map refl in
+    let inside : i < length (values_of v) = subst (λ y. i < length (values_of y)) (sym k.2) (omega (arith, k.3, count)) in
+    (inside, inside_some (values_of v) i inside)
+
+-- and its name
+pub member_name : (v : Tree) (n i : ℕ) → form.Object n ≡ form_of v → i < n → (i < length (names_of v)) × ((s : Span) × (slice_get (names_of v) i ≡ Some s))
+member_name v n i e lt =
+    let k = object_from_form v n e in
+    let count : length (names_of (object k.0 k.1)) ≡ length (members_of k.0) = simp length-map refl in
+    let inside : i < length (names_of v) = subst (λ y. i < length (names_of y)) (sym k.2) (omega (arith, k.3, count)) in
+    (inside, inside_some (names_of v) i inside)

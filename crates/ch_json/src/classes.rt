@@ -11,13 +11,13 @@ pub fn is_blank_byte(byte: u8) -> bool
 pub fn is_digit_byte(byte: u8) -> bool
     ensures { result ≡ is_digit byte }
 {
-    48 <= byte && byte <= 57
+    b'0' <= byte && byte <= b'9'
 }
 
 pub fn is_digit_byte_1_to_9(byte: u8) -> bool
     ensures { result ≡ is_digit_1_to_9 byte }
 {
-    49 <= byte && byte <= 57
+    b'1' <= byte && byte <= b'9'
 }
 
 pub fn is_e_byte(byte: u8) -> bool
@@ -35,7 +35,8 @@ pub fn is_sign_byte(byte: u8) -> bool
 pub fn is_hex_byte(byte: u8) -> bool
     ensures { result ≡ is_hex byte }
 {
-    (48 <= byte && byte <= 57) || ((65 <= byte && byte <= 70) || (97 <= byte && byte <= 102))
+    (b'0' <= byte && byte <= b'9')
+        || ((b'A' <= byte && byte <= b'F') || (b'a' <= byte && byte <= b'f'))
 }
 
 pub fn is_d_byte(byte: u8) -> bool
@@ -47,13 +48,13 @@ pub fn is_d_byte(byte: u8) -> bool
 pub fn is_8_to_b_byte(byte: u8) -> bool
     ensures { result ≡ is_8_to_b byte }
 {
-    byte == 56 || byte == 57 || byte == 97 || byte == 98 || byte == 65 || byte == 66
+    byte == b'8' || byte == b'9' || byte == b'a' || byte == b'b' || byte == b'A' || byte == b'B'
 }
 
 pub fn is_c_to_f_byte(byte: u8) -> bool
     ensures { result ≡ is_c_to_f byte }
 {
-    (99 <= byte && byte <= 102) || (67 <= byte && byte <= 70)
+    (b'c' <= byte && byte <= b'f') || (b'C' <= byte && byte <= b'F')
 }
 
 pub fn is_unescaped_byte(byte: u8) -> bool
@@ -65,12 +66,12 @@ pub fn is_unescaped_byte(byte: u8) -> bool
 pub fn is_short_byte(byte: u8) -> bool
     ensures { result ≡ is_short byte }
 {
-    byte == 34
-        || byte == 92
-        || byte == 47
-        || byte == 98
-        || byte == 102
-        || byte == 110
-        || byte == 114
-        || byte == 116
+    byte == b'"'
+        || byte == b'\\'
+        || byte == b'/'
+        || byte == b'b'
+        || byte == b'f'
+        || byte == b'n'
+        || byte == b'r'
+        || byte == b't'
 }

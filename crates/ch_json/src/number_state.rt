@@ -18,6 +18,7 @@ pub enum InNumber {
     Exponent,
 }
 
+/// What a byte does to a number: it is part of it, or the number stops before it.
 #[derive(Clone, Copy, Debug)]
 pub enum NumberStep {
     More(InNumber),
@@ -55,6 +56,7 @@ pub fn after_number_byte(state: InNumber, byte: u8) -> NumberStep
     }
 }
 
+/// Whether the digits so far are a number.
 pub fn number_may_end(state: InNumber) -> bool
     ensures { result ≡ may_end (in_number_of state) }
 {

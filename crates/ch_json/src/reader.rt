@@ -1,4 +1,4 @@
-//! Reading a text, a byte at a time.
+//! Reading a text, a byte at a time, with a stack of the open brackets in place of recursion.
 ghost use Rattle.std.specs.Prelude.{◌≡◌, ◌∷◌, true, false, drop, map, ℕ, ◌+◌, ◌<◌, ◌^◌, List, length, [], ◌++◌};
 ghost use Rattle.ch_base.specs.JsonTree.{Tree, Items, Members};
 ghost use Rattle.ch_base.specs.JsonText.{is_blank};
@@ -27,21 +27,31 @@ pub enum Frame {
     Object(u64, Vec<Member>, Span),
 }
 
-/// What the next byte may be part of.
+/// What the next byte may be part of. The first number is the place where the part begins, or the
+/// bracket round it.
 #[derive(Debug, Drop)]
 pub enum Mode {
+    /// A value, with blanks before it.
     Value,
+    /// The first value of an array, or its closing bracket.
     FirstItem(u64),
+    /// The first name of an object, or its closing bracket.
     FirstKey(u64),
+    /// The name behind a comma; the members so far.
     NextKey(u64, Vec<Member>),
+    /// A name, which begins at the second number.
     Key(u64, Vec<Member>, u64, InString),
+    /// The colon behind a name.
     Colon(u64, Vec<Member>, Span),
+    /// `null`, `false` or `true`, of which so many letters are read.
     Word(Plain, u64, usize),
     Number(u64, InNumber),
     Str(u64, InString),
+    /// What follows the value of this entry.
     After(usize),
 }
 
+/// The values that are whole, and the brackets that are open, the newest last.
 #[derive(Debug, Drop)]
 pub struct Reader {
     pub alloc: Global,
@@ -61,7 +71,7 @@ impl Reader {
         }
     }
 
-    /// The value from `from` to before `to` is whole. Its node.
+    /// Stores the value from `from` up to `to`, which is whole, and answers its entry.
     fn push_node(&mut self, content: Content, from: u64, to: u64) -> Result<usize, JsonError>
         ensures { (v : Tree) (room : ℕ) (fs : List SpecFrame) → Open self.old room fs 0 →
             Adds self.old content from to v → Added result self.new room fs v }
@@ -74,6 +84,7 @@ impl Reader {
         Ok(node)
     }
 
+    /// Stores a value that ends with the byte at `at`.
     fn made(&mut self, content: Content, from: u64, to: u64, at: u64) -> Result<Mode, JsonError>
         ensures { (v : Tree) (room : ℕ) (fs : List SpecFrame) → Open self.old room fs 0 →
             Adds self.old content from to v → Follows at result self.new (go (spec.after v) room fs) }
@@ -82,6 +93,7 @@ impl Reader {
         Ok(Mode::After(node))
     }
 
+    /// Takes the first byte of a value in.
     fn begin(&self, at: u64, byte: u8) -> Result<Mode, JsonError>
         ensures { (room : ℕ) (fs : List SpecFrame) → Open self.now room fs 0 →
             Follows at result self.now (start room fs at byte) }
@@ -101,6 +113,7 @@ impl Reader {
         }
     }
 
+    /// Goes on behind an opening bracket, unless it is one too many.
     fn open(&self, at: u64, mode: Mode) -> Result<Mode, JsonError>
         ensures { (m : SpecMode) (room : ℕ) (fs : List SpecFrame) → Open self.now room fs 0 →
             SeesMode (nodes_of self.now) mode m → opened mode ≡ 1 → Follows at result self.now (open_bracket room m fs) }
@@ -111,6 +124,7 @@ impl Reader {
         Ok(mode)
     }
 
+    /// Takes a byte behind a value in.
     fn after_value(&mut self, node: usize, at: u64, byte: u8) -> Result<Mode, JsonError>
         requires { at + 1 < 2 ^ 64 }
         ensures { (v : Tree) (room : ℕ) (fs : List SpecFrame) → Open self.old room fs 0 →
@@ -129,6 +143,7 @@ impl Reader {
         }
     }
 
+    /// Takes the byte behind a value of an array in, which is no blank.
     fn after_item(
         &mut self,
         from: u64,
@@ -156,6 +171,7 @@ impl Reader {
         }
     }
 
+    /// Takes the byte behind a member in, which is no blank.
     fn after_member(
         &mut self,
         from: u64,
@@ -371,7 +387,7 @@ impl Reader {
         }
     }
 
-    /// The text ends at `at`. Its value's node.
+    /// The text ends at `at`. Answers the entry of its value.
     pub fn finish(&mut self, mode: Mode, at: u64) -> Result<usize, JsonError>
         ensures { (m : SpecMode) (room : ℕ) (fs : List SpecFrame) → Sees self.old mode m room fs →
             Ends at result self.new (go m room fs) }
@@ -393,6 +409,7 @@ impl Reader {
         }
     }
 
+    /// The text ends with a number.
     fn last_number(&mut self, from: u64, state: InNumber, at: u64) -> Result<usize, JsonError>
         ensures { (room : ℕ) → Open self.old room [] 0 → Ends at result self.new (go (spec.number from (in_number_of state)) room []) }
     {
@@ -403,6 +420,7 @@ impl Reader {
     }
 }
 
+/// The letters of a word.
 fn letters(word: Plain) -> &'static [u8]
     ensures { result.now ≡ letters_of word }
 {

@@ -10,21 +10,28 @@ use crate::classes::{
 /// Where the next byte of a string stands.
 #[derive(Clone, Copy, Debug)]
 pub enum InString {
+    /// Between characters.
     Chars,
+    /// Behind a backslash.
     Escape,
+    /// Before the four hex digits of an escape.
     Digits4,
+    /// Behind the first digit, a d: a surrogate may come.
     AfterD,
     Digits3,
     Digits2,
     Digits1,
+    /// Before the last two digits of a high surrogate.
     High2,
     High1,
+    /// Behind a high surrogate: an escape of a low one comes.
     LowBackslash,
     LowU,
     LowFirst,
     LowSecond,
 }
 
+/// What a byte does to a string: it ends it, it leaves it open, or it can't stand there.
 #[derive(Clone, Copy, Debug)]
 pub enum StringStep {
     Ends,

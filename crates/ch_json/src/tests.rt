@@ -76,50 +76,43 @@ fn depths(rt: HostRuntime) -> Result<(), Fail> {
     Ok(())
 }
 
-/// The names and values of the whole, as they are spelled.
-fn spelled(alloc: Global, text: &str) -> Result<String, Fail> {
-    let mut out = String::new(alloc);
+/// The value at this place of the whole, an array, as it is spelled.
+fn item(alloc: Global, text: &str, i: u64) -> Result<String, Fail> {
     let doc = read(alloc, text)?;
     let top = doc.top();
-    match doc.form(top) {
-        Form::List(count) => {
-            for i in 0..count {
-                out.push_str(doc.span(doc.item(top, i)).part(text))?;
-                out.push_str("|")?;
-            }
+    if let Form::List(count) = doc.form(top) {
+        if i < count {
+            let node = doc.item(top, i);
+            let place = doc.span(node);
+            return Ok(String::from_str(alloc, place.part(text))?);
         }
-        Form::Object(count) => {
-            for i in 0..count {
-                out.push_str(doc.key(top, i).part(text))?;
-                out.push_str("=")?;
-                out.push_str(doc.span(doc.item(top, i)).part(text))?;
-                out.push_str("|")?;
-            }
-        }
-        _ => out.push_str(doc.span(top).part(text))?,
     }
-    Ok(out)
+    Ok(String::new(alloc))
+}
+
+/// The name at this place of the whole, an object, as it is spelled.
+fn key(alloc: Global, text: &str, i: u64) -> Result<String, Fail> {
+    let doc = read(alloc, text)?;
+    let top = doc.top();
+    if let Form::Object(count) = doc.form(top) {
+        if i < count {
+            let place = doc.key(top, i);
+            return Ok(String::from_str(alloc, place.part(text))?);
+        }
+    }
+    Ok(String::new(alloc))
 }
 
 #[test]
 fn spellings(rt: HostRuntime) -> Result<(), Fail> {
-    let table = [
-        (" 1.50 ", "1.50"),
-        (
-            "[ 1E+0 , -0 ,[ ],{ } , \"\\u0041\" ]",
-            "1E+0|-0|[ ]|{ }|\"\\u0041\"|",
-        ),
-        (
-            "{ \"a\" : 1.50 , \"\\u0061\":null}",
-            "\"a\"=1.50|\"\\u0061\"=null|",
-        ),
-        ("[]", ""),
-        ("true", "true"),
-    ];
-    for (text, want) in table {
-        let got = spelled(rt.alloc(), text)?;
-        assert_eq!(rt; got.as_str(), want, "in {text}");
+    let array = "[ 1.50 , 1E+0,[ ],{\"a\":[2]} , \"\\u0041\" ]";
+    let wants = ["1.50", "1E+0", "[ ]", "{\"a\":[2]}", "\"\\u0041\"", ""];
+    for (i, want) in wants.iter().enumerate() {
+        let got = item(rt.alloc(), array, i as u64)?;
+        assert_eq!(rt; got.as_str(), *want, "at {i}");
     }
+    let got = key(rt.alloc(), "{ \"a\" : 1.50 , \"\\u0061\":null}", 1)?;
+    assert_eq!(rt; got.as_str(), "\"\\u0061\"");
     Ok(())
 }
 
