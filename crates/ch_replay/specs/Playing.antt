@@ -4,7 +4,7 @@ use Rattle.ch_base.specs.declared.channel.ChanCall.TheVariants.{Take}
 use Rattle.ch_history.specs.Frames.{waiting}
 use Rattle.ch_shard.specs.Stands.{Stands}
 use Rattle.ch_transcript.specs.Printing.{frame_line}
-use Rattle.ch_transcript.specs.Transcript.{Progress, Played, called}
+use Rattle.ch_transcript.specs.Transcript.{Progress, Played, with_call}
 use Rattle.ch_replay.specs.declared.player.Player.{Player}
 use Rattle.ch_replay.specs.declared.player.LineFault.{LineFault}
 use Rattle.ch_replay.specs.declared.player.LineFault.TheVariants.{NotALine, Memory}
@@ -30,4 +30,4 @@ IsRefused Memory o = Unit {0}
 -- the frames that wait for caller 0 are added, and taken from the shard
 pub record Rounds (player : Player) (old new : List ℕ) (p : Progress) : Type 0 where
   pub text : new ≡ old ++ flat_map frame_line (waiting p.history 0)
-  pub next : IsAt player (record { at = p.at; opened = p.opened; history = called p.history Take })
+  pub next : IsAt player (record { at = p.at; opened = p.opened; history = with_call p.history Take })

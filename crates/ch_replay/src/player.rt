@@ -5,7 +5,7 @@ ghost use Rattle.ch_history.specs.Answers.{answer_of};
 ghost use Rattle.ch_history.specs.WellFormed.{IsWellFormed};
 ghost use Rattle.ch_shard.specs.Stands.{Stands, IsServed};
 ghost use Rattle.ch_transcript.specs.Commands.{latest_moment, is_public_name, is_event, is_plain_string, IsCommand, IsLine};
-ghost use Rattle.ch_transcript.specs.Transcript.{Progress, beginning, played, played_as, rounded, obeyed, opens, says, asks, called};
+ghost use Rattle.ch_transcript.specs.Transcript.{Progress, beginning, played, played_as, rounded, obeyed, opens, says, asks, with_call};
 ghost use Rattle.ch_transcript.specs.Printing.{sent_text};
 
 use crate::parsing::read_line;
@@ -217,14 +217,14 @@ fn publish_call(
 fn ask(shard: &mut ChanShard, call: &ChanCall) -> Result<ChanAnswer, Memory>
     requires formed { IsWellFormed call.now }
     requires served { IsServed call.now }
-    ensures { (h : ChanHistory) → Stands shard.old h → IfOk result (λ answer. (answer ≡ answer_of h 0 call.now) × Stands shard.new (called h call.now)) }
+    ensures { (h : ChanHistory) → Stands shard.old h → IfOk result (λ answer. (answer ≡ answer_of h 0 call.now) × Stands shard.new (with_call h call.now)) }
 {
     shard.apply(0, call)
 }
 
 /// The frames that wait for caller 0.
 fn take_frames(shard: &mut ChanShard) -> Result<FrameList, Memory>
-    ensures { (h : ChanHistory) → Stands shard.old h → IfOk result (λ frames. (frames ≡ waiting h 0) × Stands shard.new (called h ChanCall.Take)) }
+    ensures { (h : ChanHistory) → Stands shard.old h → IfOk result (λ frames. (frames ≡ waiting h 0) × Stands shard.new (with_call h ChanCall.Take)) }
 {
     match shard.apply(0, &ChanCall::Take)? {
         ChanAnswer::Frames(frames) => Ok(frames),

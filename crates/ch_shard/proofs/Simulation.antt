@@ -10,7 +10,7 @@ use Rattle.ch_history.specs.Entries.{ChanEntry, ChanHistory}
 use Rattle.ch_history.specs.Subscriptions.{subscriptions, subs_after}
 use Rattle.ch_history.specs.Cache.{latest}
 use Rattle.ch_history.specs.Deliveries.{for_owner}
-use Rattle.ch_history.specs.Frames.{waiting, frames, frames_by, takes}
+use Rattle.ch_history.specs.Frames.{frames, frames_by, takes}
 use Rattle.ch_history.specs.Webhooks.{pending}
 use Rattle.ch_history.specs.Answers.{answer_by}
 use Rattle.ch_history.specs.WellFormed.{IsWellFormed}

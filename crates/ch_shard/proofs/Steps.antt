@@ -1,5 +1,5 @@
 -- What each call changes is what the definitions say of its entry.
-use Rattle.std.proofs.Common.{◌≡◌, ◌≢◌, ℕ, Bool, true, false, not, ◌==◌, ◌&&◌, cond, List, [], ◌∷◌, ◌++◌, length, filter, map, bytes_eq, refl, ap, ap₂, sym, subst, ◌∙◌, append-nil, arith, Option, Some, None, MatchBool}
+use Rattle.std.proofs.Common.{◌≡◌, ◌≢◌, ℕ, Bool, true, false, ◌==◌, cond, List, [], ◌∷◌, ◌++◌, length, map, bytes_eq, refl, ap, ap₂, sym, subst, ◌∙◌, append-nil, arith, Option, Some, None, MatchBool}
 use Rattle.std.specs.Prelude.{option_to_list}
 use Rattle.std.specs.List.{list_any}
 use Rattle.std.proofs.lemmas.Bool.Decides.{nat_tests}
@@ -14,11 +14,11 @@ use Rattle.ch_history.specs.declared.rows.Subscription.{Subscription}
 use Rattle.ch_history.specs.declared.rows.Cached.{Cached}
 use Rattle.ch_history.specs.Entries.{ChanEntry}
 use Rattle.ch_history.specs.Texts.{ascending}
-use Rattle.ch_history.specs.ChannelName.{Kind, Public, kind_of, has_members, keeps_event, is_presence, is_cache}
+use Rattle.ch_history.specs.ChannelName.{Public, kind_of, has_members, keeps_event, is_presence, is_cache}
 use Rattle.ch_history.specs.Deliveries.{for_owner}
 use Rattle.ch_history.specs.Subscriptions.{opened, settles, subs_after, on_channel, is_on, is_joined}
 use Rattle.ch_history.specs.Presence.{members_in, rows_in}
-use Rattle.ch_history.specs.Frames.{to, latest_frame, is_other, broadcast}
+use Rattle.ch_history.specs.Frames.{to, latest_frame}
 use Rattle.ch_history.specs.WellFormed.{IsMemberOf, IsWellFormed}
 use Rattle.ch_history.proofs.Lists.{filter-none, list_any-false, list_any-filter}
 use Rattle.ch_history.proofs.Subscriptions.{opens_nothing}

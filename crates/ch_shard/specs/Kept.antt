@@ -1,5 +1,5 @@
 -- What a shard keeps, and what each call changes in it.
-use Rattle.std.specs.Prelude.{◌≡◌, ◌≢◌, ℕ, List, [], ◌∷◌, ◌++◌, length, Option, Some, None, MatchBool}
+use Rattle.std.specs.Prelude.{◌≡◌, ◌≢◌, ℕ, List, [], ◌∷◌, ◌++◌, length, Option, None, MatchBool}
 use Rattle.ch_base.specs.declared.channel.ChanAnswer.{ChanAnswer}
 use Rattle.ch_base.specs.declared.channel.ChanAnswer.TheVariants.{Joined, Already, Sent, Frames}
 use Rattle.ch_base.specs.declared.frame.Frame.TheVariants.{Succeeded}

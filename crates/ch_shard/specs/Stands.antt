@@ -1,10 +1,9 @@
 -- Which histories a channel shard stands for, and which calls it serves.
-use Rattle.std.specs.Prelude.{◌≡◌, ℕ, ◌<◌, List}
+use Rattle.std.specs.Prelude.{◌≡◌, ℕ, ◌<◌}
 use Rattle.ch_base.specs.declared.channel.ChanCall.{ChanCall}
 use Rattle.ch_base.specs.declared.channel.ChanCall.TheVariants.{Join, Publish, Take}
 use Rattle.ch_base.specs.declared.channel.ChanAnswer.{ChanAnswer}
 use Rattle.ch_base.specs.declared.channel.ChanAnswer.TheVariants.{Joined, Already, Sent, Frames}
-use Rattle.ch_base.specs.declared.items.Items.{Items}
 use Rattle.ch_history.specs.ChannelName.{kind_of, Public}
 use Rattle.ch_history.specs.Entries.{ChanHistory}
 use Rattle.ch_history.specs.Subscriptions.{subscriptions}

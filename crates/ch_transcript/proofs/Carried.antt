@@ -1,5 +1,5 @@
 -- What the lines of a transcript carry, and that their calls are well formed.
-use Rattle.std.proofs.Common.{◌≡◌, ℕ, Bool, true, false, ◌&&◌, ◌==◌, ◌≤◌, ◌^◌, nat_le, List, [], ◌∷◌, ◌++◌, length, cond, bytes_eq, ap, sym, refl, subst, ◌∙◌, arith}
+use Rattle.std.proofs.Common.{◌≡◌, ℕ, Bool, true, false, ◌&&◌, ◌==◌, ◌≤◌, nat_le, List, [], ◌∷◌, cond, bytes_eq, ap, refl, ◌∙◌, arith}
 use Rattle.std.specs.Prelude.{Option, Some, None, IfSome, codes}
 use Rattle.std.specs.Str.{is_utf8}
 use Rattle.std.specs.Str.Parse.{digits_value}
@@ -15,8 +15,7 @@ use Rattle.ch_history.specs.Limits.{is_event_name}
 use Rattle.ch_history.specs.WellFormed.{IsWellFormed, IsMemberOf}
 use Rattle.ch_transcript.specs.declared.commands.Command.{Command}
 use Rattle.ch_transcript.specs.declared.commands.Command.TheVariants.{Open, Say, Publish}
-use Rattle.ch_transcript.specs.declared.commands.Line.{Line}
-use Rattle.ch_transcript.specs.declared.commands.Line.TheVariants.{Skipped, Timed, Bad}
+use Rattle.ch_transcript.specs.declared.commands.Line.TheVariants.{Skipped, Bad}
 use Rattle.ch_transcript.specs.Commands.{latest_moment, first_word, other_words, number_in, is_public, is_public_name, is_event, is_event_byte, is_string_rest, is_plain_string, channel_in, say_of, said, publish_of, published, open_text, command_of, timed, is_skipped, line_in, line_of, IsCommand, IsLine}
 
 and_left : (a b : Bool) → (a && b) ≡ true → a ≡ true

@@ -1,8 +1,7 @@
 -- How the outcome of a transcript follows from that of its lines so far.
-use Rattle.std.proofs.Common.{◌≡◌, ℕ, Bool, true, false, nat_lt, ◌+◌, ◌<◌, ◌≤◌, ◌∙◌, ap, sym, refl, subst, List, [], ◌∷◌, ◌++◌, length, cond, append_assoc, append-nil, length-append, arith}
-use Rattle.std.specs.Prelude.{Option, Some, None, take, ◌⊎◌}
-use Rattle.std.proofs.Common.{inl, inr}
-use Rattle.ch_transcript.specs.Replayed.{IsPrefix, IsPart, lines_read, Refuses}
+use Rattle.std.proofs.Common.{◌≡◌, ℕ, Bool, true, false, nat_lt, ◌+◌, ◌<◌, ◌≤◌, ◌∙◌, ap, sym, refl, List, [], ◌∷◌, ◌++◌, length, cond, append_assoc, append-nil, length-append, arith}
+use Rattle.std.specs.Prelude.{Option, Some, None}
+use Rattle.ch_transcript.specs.Replayed.{IsPrefix}
 use Rattle.std.proofs.lemmas.Bool.{le-ltb, lt-ltb}
 use Rattle.ch_transcript.specs.Lines.{longest_line, has_line_end, lines_of, whole_lines}
 use Rattle.ch_transcript.specs.Printing.{error_line, long_line}

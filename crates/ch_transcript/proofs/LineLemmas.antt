@@ -1,5 +1,5 @@
 -- Lines of bytes that end in a line end, or don't.
-use Rattle.std.proofs.Common.{◌≡◌, ℕ, Bool, true, false, ◌||◌, nat_eq, ◌<◌, ◌∙◌, ap, sym, refl, List, [], ◌∷◌, ◌++◌, length, cond, append_assoc, append-nil, arith}
+use Rattle.std.proofs.Common.{◌≡◌, ℕ, Bool, true, false, ◌||◌, nat_eq, ◌<◌, ◌∙◌, ap, refl, List, [], ◌∷◌, ◌++◌, length, cond, arith}
 use Rattle.ch_transcript.specs.Lines.{has_line_end, onto_first, lines_of, whole_lines}
 
 or_left : (a b : Bool) → (a || b) ≡ false → a ≡ false

@@ -1,5 +1,5 @@
 -- What a replay prints. The start second, the first part of each socket id, is 1.
-use Rattle.std.specs.Prelude.{ℕ, List, [], ◌∷◌, ◌++◌, Option, Some, None, codes}
+use Rattle.std.specs.Prelude.{ℕ, List, [], ◌∷◌, ◌++◌, codes}
 use Rattle.std.specs.Fmt.{decimal}
 use Rattle.ch_base.specs.Escape.{escaped}
 use Rattle.ch_base.specs.declared.channel.ChanAnswer.{ChanAnswer}

@@ -1,10 +1,9 @@
 -- What a replay of a transcript writes, and its status: a fold over the lines.
-use Rattle.std.specs.Prelude.{ℕ, Bool, ◌+◌, ◌&&◌, nat_le, nat_lt, List, [], ◌∷◌, ◌++◌, length, flat_map, Option, Some, None, if◌then◌else◌}
-use Rattle.ch_base.specs.Growth.{entry}
+use Rattle.std.specs.Prelude.{ℕ, ◌+◌, ◌&&◌, nat_le, nat_lt, List, [], ◌∷◌, ◌++◌, length, flat_map, Option, Some, None, if◌then◌else◌}
 use Rattle.ch_base.specs.declared.channel.ChanAnswer.{ChanAnswer}
 use Rattle.ch_base.specs.declared.channel.ChanCall.{ChanCall}
 use Rattle.ch_base.specs.declared.channel.ChanCall.TheVariants.{Take, Join, Publish as PublishCall}
-use Rattle.ch_history.specs.Entries.{ChanHistory}
+use Rattle.ch_history.specs.Entries.{ChanHistory, called}
 use Rattle.ch_history.specs.Frames.{waiting}
 use Rattle.ch_history.specs.Answers.{answer_of}
 use Rattle.ch_transcript.specs.declared.commands.Command.{Command}
@@ -32,8 +31,8 @@ pub record Played : Type 0 where
   pub next : Progress
 
 -- the history with one more call of caller 0, which is answered as it has to be
-abbrev pub called : ChanHistory → ChanCall → ChanHistory
-called h call = h ++ entry 0 call (answer_of h 0 call) ∷ []
+abbrev pub with_call : ChanHistory → ChanCall → ChanHistory
+with_call h call = called h 0 call (answer_of h 0 call)
 
 -- the most lines that open a connection
 abbrev pub most_opened : ℕ
@@ -49,7 +48,7 @@ opens p at =
 -- a call is made, and its answer written
 abbrev pub asks : Progress → ℕ → ChanCall → (ChanAnswer → List ℕ) → Option Played
 asks p at call text =
-    Some (record { text = text (answer_of p.history 0 call); next = record { at = at; opened = p.opened; history = called p.history call } })
+    Some (record { text = text (answer_of p.history 0 call); next = record { at = at; opened = p.opened; history = with_call p.history call } })
 
 -- one of the sockets subscribes
 abbrev pub says : Progress → ℕ → ℕ → List ℕ → Option Played
@@ -66,7 +65,7 @@ obeyed p at (Publish channel event body) = asks p at (PublishCall channel event 
 abbrev pub with_round : Played → Played
 with_round x = record {
   text = x.text ++ flat_map frame_line (waiting x.next.history 0);
-  next = record { at = x.next.at; opened = x.next.opened; history = called x.next.history Take };
+  next = record { at = x.next.at; opened = x.next.opened; history = with_call x.next.history Take };
 }
 
 abbrev pub rounded : Option Played → Option Played

@@ -8,10 +8,9 @@ use ch_base::{Memory, Text};
 use ch_io::{ReaderSource, WriterSink};
 use ch_replay::replay;
 use std::alloc::Global;
-use std::env;
-use std::io;
 use std::process::ExitCode;
 use std::rt::Env;
+use std::{env, io};
 
 /// The status for want of memory.
 const MEMORY: u8 = 7;
