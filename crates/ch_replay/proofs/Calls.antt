@@ -1,5 +1,5 @@
 -- A call of the shard, in each history that it stands for.
-use Rattle.std.proofs.Common.{◌≡◌, ℕ, subst, List, [], ◌∷◌, ◌++◌}
+use Rattle.std.proofs.Common.{◌≡◌, subst, [], ◌∷◌, ◌++◌}
 use Rattle.std.specs.Prelude.{Result, Ok, Err, MatchResult, IfOk}
 use Rattle.ch_base.specs.Growth.{entry}
 use Rattle.ch_base.specs.declared.memory.Memory.{Memory}

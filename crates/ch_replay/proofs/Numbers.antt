@@ -1,6 +1,6 @@
 -- Numbers as they are written.
-use Rattle.std.proofs.Common.{◌≡◌, ℕ, Bool, true, false, ◌&&◌, nat_le, ◌≤◌, ◌<◌, ◌^◌, ◌∙◌, ap, sym, refl, List, cond, bytes_eq, arith}
-use Rattle.std.specs.Prelude.{Option, Some, None}
+use Rattle.std.proofs.Common.{◌≡◌, ℕ, Bool, true, false, ◌&&◌, nat_le, ◌≤◌, sym, refl, List, cond, bytes_eq}
+use Rattle.std.specs.Prelude.{Some, None}
 use Rattle.std.specs.Fmt.{decimal}
 use Rattle.std.specs.Str.Parse.{digits_value}
 use Rattle.std.proofs.lemmas.Bool.{leb-true}

@@ -1,5 +1,5 @@
 -- How the loop over lines goes on, and how it ends.
-use Rattle.std.proofs.Common.{◌≡◌, ℕ, Bool, true, false, ◌+◌, ◌^◌, ◌<◌, ◌≤◌, ◌∙◌, ap, sym, refl, subst, inl, inr, List, [], ◌∷◌, ◌++◌, length, take, drop, append_assoc, append-nil, length-append, arith}
+use Rattle.std.proofs.Common.{◌≡◌, ℕ, true, false, ◌+◌, ◌^◌, ◌<◌, ◌≤◌, ◌∙◌, ap, sym, refl, subst, inl, inr, List, [], ◌∷◌, ◌++◌, length, take, drop, append_assoc, append-nil, length-append, arith}
 use Rattle.std.specs.Prelude.{Option, Some, None, Result, Ok, Err, OnOk, OnErr, ◌⊎◌}
 use Rattle.std.proofs.Math.Seq.{take-length}
 use Rattle.std.proofs.lemmas.List.{take-append-drop}
@@ -13,7 +13,7 @@ use Rattle.ch_transcript.specs.declared.ending.Ending.TheVariants as ending
 use Rattle.ch_transcript.proofs.Carrying.{Carries, Carries-begin, Carries-line, Carries-ended, Carries-failed, Carries-last, Carries-refused, Carries-last_refused, Carries-long, Carries-part, Carries-line_part, Carries-last_part}
 use Rattle.ch_replay.specs.Reading.{ReadsLine}
 use Rattle.ch_replay.specs.Playing.{IsAt}
-use Rattle.ch_replay.specs.Serving.{Serves, Stops, Breaks, NamesBy, EndsAt}
+use Rattle.ch_replay.specs.Serving.{Serves, Stops, EndsAt}
 use Rattle.ch_replay.specs.declared.player.Player.{Player}
 use Rattle.ch_replay.specs.declared.line_reader.Next.TheVariants as next
 

@@ -1,7 +1,6 @@
 -- What the reader of lines gives.
-use Rattle.std.specs.Prelude.{◌≡◌, ℕ, Bool, true, false, ◌+◌, ◌<◌, ◌≤◌, List, [], ◌∷◌, ◌++◌, length, Option, Result, MatchResult, MatchBool}
+use Rattle.std.specs.Prelude.{◌≡◌, ℕ, false, ◌+◌, ◌<◌, ◌≤◌, List, [], ◌∷◌, ◌++◌, length, Option}
 use Rattle.std.specs.Io.KnownBytes.{Consumes, IsAtEnd}
-use Rattle.ch_io.specs.Counts.{Rose}
 use Rattle.ch_transcript.specs.Lines.{longest_line, has_line_end}
 use Rattle.ch_replay.specs.declared.line_reader.Next.{Next}
 use Rattle.ch_replay.specs.declared.line_reader.Next.TheVariants.{Whole, Last, Ended, Long, Failed, Memory}

@@ -5,7 +5,7 @@ use Rattle.ch_transcript.specs.Printing.{error_line, long_line}
 use Rattle.ch_transcript.specs.Replayed.{WritesLast}
 use Rattle.ch_transcript.specs.Transcript.{Played}
 use Rattle.ch_transcript.specs.declared.ending.Ending.{Ending}
-use Rattle.ch_transcript.specs.declared.ending.Ending.TheVariants.{Done, NotALine, LongLine, ReadFailed, WriteFailed, Memory}
+use Rattle.ch_transcript.specs.declared.ending.Ending.TheVariants.{NotALine, LongLine, WriteFailed, Memory}
 use Rattle.ch_replay.specs.declared.player.Player.{Player}
 use Rattle.ch_replay.specs.Playing.{IsAt}
 

@@ -1,5 +1,4 @@
 use Rattle.std.proofs.Common.{nat_eq, arith}
-use Rattle.std.proofs.lemmas.Grind.{common_steps}
 use Rattle.std.proofs.lemmas.Bool.Decides.{nat_tests}
 use Rattle.std.proofs.lemmas.List.Folds.{list_any_more}
 use Rattle.ch_replay.proofs.line_reader.place_of.Goals as goal

@@ -1,4 +1,4 @@
-use Rattle.std.proofs.Common.{◌≡◌, ◌≤◌, length, false, take}
+use Rattle.std.proofs.Common.{◌≡◌, false, take}
 use Rattle.ch_transcript.specs.Lines.{has_byte}
 use Rattle.ch_replay.proofs.line_reader.place_of.Given as goal
 

@@ -1,8 +1,8 @@
-use Rattle.std.proofs.Common.{◌≡◌, ◌≤◌, ◌^◌, ◌+◌, ◌-◌, min, ℕ, List, subst, sym, arith}
+use Rattle.std.proofs.Common.{◌≤◌, ℕ, List, subst, arith}
 use Rattle.ch_io.specs.Counts.{Rose}
 use Rattle.ch_transcript.specs.Transcript.{played}
 use Rattle.ch_replay.specs.Serving.{Serves, Stops}
-use Rattle.ch_replay.proofs.Running.{Runs, Runs-begin, Runs-line, Runs-ended, Runs-failed, Runs-memory, Runs-last, Runs-stop, Runs-stop_last, Runs-long, Runs-smaller, no_read_failed, nothing_ran}
+use Rattle.ch_replay.proofs.Running.{Runs-line, Runs-ended, Runs-failed, Runs-memory, Runs-last, Runs-stop, Runs-stop_last, Runs-long, Runs-smaller, no_read_failed, nothing_ran}
 use Rattle.ch_replay.proofs.replaying.replay_lines.Goals as goal
 
 earlier : (a b d : ℕ) → a ≤ b → Rose b d → Rose a d

@@ -1,5 +1,4 @@
-use Rattle.std.proofs.Common.{subst, sym, List, ℕ, OnOk, OnErr, ap}
-use Rattle.std.specs.Io.KnownBytes.{Appends}
+use Rattle.std.proofs.Common.{subst, List, ℕ}
 use Rattle.ch_replay.proofs.Running.{WritesLast-from}
 use Rattle.ch_transcript.specs.Replayed.{WritesLast}
 use Rattle.ch_io.specs.Counts.{Rose}
