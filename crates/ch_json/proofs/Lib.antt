@@ -17,3 +17,4 @@ pub mod Escapes
 pub mod Unescaped
 pub mod Finding
 pub mod Forms
+pub mod Alone

@@ -80,7 +80,7 @@ name_spelled text (object ms t) s i h e =
 
 -- ---- a span may be cut out
 
-stands : (n room : ℕ) (v : Tree) (t r : List ℕ) → Value n room v t r → Stands n (spelled_at v) t r
+pub stands : (n room : ℕ) (v : Tree) (t r : List ℕ) → Value n room v t r → Stands n (spelled_at v) t r
 stands n room (plain p s) t r (st, h) = st
 stands n zero (array vs s) t r h = absurd h
 stands n (suc room) (array vs s) t r (st, h) = st

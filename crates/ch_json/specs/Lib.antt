@@ -11,3 +11,4 @@ pub mod Scalars
 pub mod Machine
 pub mod States
 pub mod ReaderView
+pub mod Levels

@@ -1,8 +1,10 @@
 //! What holds of every text.
-ghost use Rattle.std.specs.Prelude.{◌≡◌, ℕ, List};
+ghost use Rattle.std.specs.Prelude.{◌≡◌, ◌≤◌, ℕ, List};
 ghost use Rattle.ch_base.specs.JsonTree.{Tree, Members};
-ghost use Rattle.ch_base.specs.JsonText.{Spells, Unescapes};
+ghost use Rattle.ch_base.specs.JsonText.{Spells, SpellsWithin, Unescapes, max_depth};
+ghost use Rattle.ch_json.specs.Levels.{levels};
 ghost use Rattle.ch_json.specs.Named.{Named};
+ghost use Rattle.ch_json.specs.Parts.{part, spelled_at, IsSpelledIn};
 
 /// A text spells at most one tree.
 pub fn one_tree()
@@ -18,4 +20,15 @@ pub fn one_text()
 pub fn one_list()
     ensures { (text : List ℕ) (name : List ℕ) (ms : Members) (vs : List Tree) (ws : List Tree) →
         Named text name ms vs → Named text name ms ws → vs ≡ ws }
+{}
+
+/// A value inside a text is a JSON text of its own, with as many open brackets as the value has levels.
+pub fn value_alone()
+    ensures { (text : List ℕ) (v : Tree) → IsSpelledIn text v →
+        (w : Tree) × SpellsWithin (levels v) (part text (spelled_at v)) w }
+{}
+
+/// A JSON text has at most 64 levels.
+pub fn most_levels()
+    ensures { (text : List ℕ) (v : Tree) → Spells text v → levels v ≤ max_depth }
 {}
