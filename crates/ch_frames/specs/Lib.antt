@@ -1,0 +1,5 @@
+pub mod ErrorTexts
+pub mod Events
+pub mod Examples
+pub mod PresenceData
+pub mod Printed
