@@ -1,0 +1,17 @@
+//! Which sockets are subscribed to which channels, in the order in which they joined.
+//!
+//! Contracts see [`Subs`] as the list of the open subscriptions, the oldest first, in which no socket is on
+//! a channel twice, and say each call by the definitions of `ch_history`. Only `join` takes memory.
+#![tactic(auto)]
+
+mod joined_as;
+mod names;
+mod rows;
+mod subs;
+
+pub use ch_history::Subscription;
+pub use joined_as::JoinedAs;
+pub use subs::Subs;
+
+#[cfg(test)]
+mod tests;
