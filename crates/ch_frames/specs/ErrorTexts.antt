@@ -1,5 +1,5 @@
 -- What the codes of errors mean, in words (Pusher Channels protocol, "Error codes"). The codes from 4310 on are
--- this server's own, in the protocol's range of errors after which the connection stays open.
+-- this server's own, in the protocol's range 4300 to 4399 of other errors.
 use Rattle.std.specs.Prelude.{ℕ, ◌==◌, List, [], codes, if◌then◌else◌}
 
 -- the text of a code; empty for a code that isn't sent
