@@ -1,0 +1,15 @@
+//! The configuration of a server: its app, what it allows, how it is split into shards and workers, where
+//! it listens and where its webhooks go.
+//!
+//! All of a [`Config`] is public. Its numbers have bounds (`IsConfig` of `specs/`), which calls that take
+//! one may ask for.
+#![tactic(auto)]
+
+mod address;
+mod config;
+
+pub use address::{Address, Target};
+pub use config::Config;
+
+#[cfg(test)]
+mod tests;
