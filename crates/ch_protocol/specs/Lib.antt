@@ -1,0 +1,14 @@
+pub mod ErrorTexts
+pub mod Events
+pub mod PresenceData
+pub mod Printed
+pub mod ObjectMembers
+pub mod UserChannels
+pub mod ClientMessages
+pub mod ChannelData
+pub mod UserDataText
+pub mod Readings
+pub mod Settling
+pub mod Sessions
+pub mod Targets
+pub mod Examples
