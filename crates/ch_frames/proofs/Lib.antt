@@ -1,2 +1,14 @@
-pub mod Computed
 pub mod Joined
+pub mod MembersOfName
+pub mod ShapesOf
+pub mod FaultsOf
+pub mod Distinct
+pub mod SpelledValues
+pub mod VerdictsOf
+pub mod IdsOf
+pub mod Watchlists
+pub mod OneMeaning
+pub mod QuotedStrings
+pub mod ObjectTexts
+pub mod ValueTexts
+pub mod PrintedObjects

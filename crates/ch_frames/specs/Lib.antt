@@ -1,5 +1,6 @@
-pub mod ErrorTexts
-pub mod Events
-pub mod Examples
-pub mod PresenceData
-pub mod Printed
+pub mod Readings
+pub mod Verdicts
+pub mod Checked
+pub mod Ids
+pub mod Laws
+pub mod PrintedFrames

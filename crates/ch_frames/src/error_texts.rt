@@ -1,8 +1,8 @@
 ghost use Rattle.std.specs.Prelude.{◌≡◌};
-ghost use Rattle.ch_frames.specs.ErrorTexts.{error_text};
+ghost use Rattle.ch_protocol.specs.ErrorTexts.{error_text};
 
 /// What an error's code means, in words; empty for a code that isn't sent.
-#[tactic(auto, unfolding(crate::specs::ErrorTexts::error_text))]
+#[tactic(auto, unfolding(ch_protocol::specs::ErrorTexts::error_text))]
 pub fn error_text(code: u16) -> &'static str
     ensures { result.now ≡ error_text code }
 {

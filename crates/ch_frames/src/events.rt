@@ -1,14 +1,14 @@
 //! Events as JSON objects.
 ghost use Rattle.std.specs.Prelude.{◌≡◌, IfOk, string_bytes};
 ghost use Rattle.ch_base.specs.Escape.{escaped};
-ghost use Rattle.ch_frames.specs.Events.{quoted, connection_event, channel_event, member_event, bare_event};
+ghost use Rattle.ch_protocol.specs.Events.{quoted, connection_event, channel_event, member_event, bare_event};
 
 use ch_base::{Memory, Text};
 use ch_json::escape_into;
 use std::alloc::Global;
 
 /// The JSON string of a text (RFC 8259, section 7).
-#[tactic(auto, unfolding(crate::specs::Events::quoted))]
+#[tactic(auto, unfolding(ch_protocol::specs::Events::quoted))]
 pub fn quoted(alloc: Global, text: &str) -> Result<String, Memory>
     ensures { IfOk result (λ t. string_bytes t ≡ quoted text.now) }
 {

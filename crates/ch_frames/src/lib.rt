@@ -1,17 +1,37 @@
-//! Frames as the texts that sockets are sent (Pusher Channels protocol, version 7).
+//! The texts of one connection, both ways (Pusher Channels protocol, version 7).
 //!
-//! [`print`] gives exactly the printed text of a frame, by the definition `printed` of `specs/`, where
-//! each frame has one short definition.
+//! [`print`] gives exactly the printed text of a frame. [`parse`] gives the message of a client's text,
+//! or the code of its first fault; [`member_of`] and [`user_of`] give who joins and who signs in. The
+//! definitions are those of `ch_protocol`, and each text has one meaning by them.
 #![tactic(auto)]
 
+mod checks;
+mod client_event;
 mod error_texts;
 mod events;
-mod examples;
+mod ids;
+mod laws;
+mod member;
+mod message;
+mod object;
 mod presence;
+mod printed_law;
 mod printing;
+mod refused;
+mod shapes;
+mod user;
+mod values;
 
-pub use examples::examples_hold;
+pub use ch_protocol::{ClientMessage, UserData};
+pub use laws::{one_member, one_user, one_verdict};
+pub use member::member_of;
+pub use message::parse;
+pub use printed_law::printed_tells_event;
 pub use printing::print;
+pub use refused::{Refused, Unread};
+pub use user::user_of;
 
+#[cfg(test)]
+mod reading_tests;
 #[cfg(test)]
 mod tests;

@@ -1,7 +1,7 @@
 //! What is told of a presence channel's members, as JSON texts.
 ghost use Rattle.std.specs.Prelude.{◌≡◌, IfOk, string_bytes, codes};
 ghost use Rattle.std.specs.List.{join_by};
-ghost use Rattle.ch_frames.specs.PresenceData.{id_of, info_of, roster, arrival, departure};
+ghost use Rattle.ch_protocol.specs.PresenceData.{id_of, info_of, roster, arrival, departure};
 
 use crate::events::quoted;
 use ch_base::{Member, Memory};

@@ -1,5 +1,5 @@
 ghost use Rattle.std.specs.Prelude.{◌≡◌, IfOk, string_bytes};
-ghost use Rattle.ch_frames.specs.Printed.{greeting, opened, error, subscribed, added, removed, event_on, signed_in, presence_word, change, watch, printed};
+ghost use Rattle.ch_protocol.specs.Printed.{greeting, opened, error, subscribed, added, removed, event_on, signed_in, presence_word, change, watch, printed};
 
 use crate::error_texts::error_text;
 use crate::events::{bare_event, channel_event, connection_event, member_event, quoted};

@@ -2,7 +2,7 @@ use Rattle.std.proofs.Common.{◌∙◌, ap, map}
 use Rattle.std.specs.Prelude.{string_bytes, codes}
 use Rattle.std.specs.List.{join_by}
 use Rattle.std.proofs.lemmas.List.{take_all}
-use Rattle.ch_frames.specs.PresenceData.{id_of}
+use Rattle.ch_protocol.specs.PresenceData.{id_of}
 use Rattle.ch_frames.proofs.Joined.{join_by-pieces}
 use Rattle.ch_frames.proofs.presence.ids.Goals as goal
 

@@ -1,6 +1,6 @@
 use Rattle.std.proofs.Common.{◌≡◌, map, take}
 use Rattle.std.specs.Prelude.{string_bytes}
-use Rattle.ch_frames.specs.PresenceData.{id_of}
+use Rattle.ch_protocol.specs.PresenceData.{id_of}
 use Rattle.ch_frames.proofs.presence.ids.Given as goal
 
 abbrev pub invariant-loop-row : goal.invariant-loop-row

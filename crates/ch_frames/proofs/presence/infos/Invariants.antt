@@ -1,6 +1,6 @@
 use Rattle.std.proofs.Common.{◌≡◌, map, take}
 use Rattle.std.specs.Prelude.{string_bytes}
-use Rattle.ch_frames.specs.PresenceData.{info_of}
+use Rattle.ch_protocol.specs.PresenceData.{info_of}
 use Rattle.ch_frames.proofs.presence.infos.Given as goal
 
 abbrev pub invariant-loop-row : goal.invariant-loop-row

@@ -1,0 +1,52 @@
+-- What `parse` answers, as a verdict.
+use Rattle.std.specs.Prelude.{ℕ, List, length, not, ◌||◌, nat_lt, Option, Some, None, Result, Ok, Err, if◌then◌else◌}
+use Rattle.ch_history.specs.ChannelName.{is_good_name}
+use Rattle.ch_protocol.specs.ClientMessages.{Verdict, ClientEvent, checked, is_subscribable, longest_event, longest_body}
+use Rattle.ch_protocol.specs.ClientMessages as event
+use Rattle.ch_protocol.specs.declared.client_message.ClientMessage.{ClientMessage}
+use Rattle.ch_frames.specs.declared.refused.Refused.{Refused}
+use Rattle.ch_frames.specs.declared.refused.Refused.TheVariants.{Code, Memory}
+use Rattle.ch_frames.specs.declared.client_event.Event.{Event}
+use Rattle.ch_frames.specs.declared.client_event.Event.TheVariants as coded_event
+
+-- the answer is such a verdict, unless memory ran out
+abbrev pub Tells : (Verdict → Type 0) → Result ClientMessage Refused → Type 0
+Tells P (Ok m) = P (Ok m)
+Tells P (Err (Code c)) = P (Err c)
+Tells P (Err Memory) = Unit {0}
+
+-- the verdict as an answer
+abbrev pub answer_of : Verdict → Result ClientMessage Refused
+answer_of (Ok m) = Ok m
+answer_of (Err c) = Err (Code c)
+
+-- the answer where this is the message of the shape, or there is none
+abbrev pub judged : Option ClientMessage → Result ClientMessage Refused
+judged None = Err (Code 4310)
+judged (Some m) = answer_of (checked m)
+
+-- a message's verdict, where this is the code of its fault, or none
+abbrev pub verdict_of : ClientMessage → Option ℕ → Verdict
+verdict_of m None = Ok m
+verdict_of m (Some c) = Err c
+
+-- the code of the fault of a channel's name to which sockets can't subscribe
+abbrev pub subscribable_fault : List ℕ → Option ℕ
+subscribable_fault channel = if is_subscribable channel then None else Some 4312
+
+-- the code of the first fault of a client event
+abbrev pub say_fault : List ℕ → List ℕ → List ℕ → Option ℕ
+say_fault channel event body =
+    if not (is_good_name channel) then Some 4312
+    else if nat_lt longest_event (length event) || nat_lt longest_body (length body) then Some 4318
+    else None
+
+-- the event that an `Event` stands for
+abbrev pub meaning : Event → ClientEvent
+meaning coded_event.Ping = event.ping
+meaning coded_event.Pong = event.pong
+meaning coded_event.Subscribe = event.subscribe
+meaning coded_event.Unsubscribe = event.unsubscribe
+meaning coded_event.SignIn = event.sign_in
+meaning coded_event.Client = event.client
+meaning coded_event.Unknown = event.unknown

@@ -1,6 +1,0 @@
-ghost use Rattle.ch_frames.specs.Examples.{Frames};
-
-/// Frames of each kind have the texts that the definitions compute.
-pub fn examples_hold()
-    ensures { Frames }
-{}

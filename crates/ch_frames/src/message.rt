@@ -1,0 +1,95 @@
+//! What a client's text says.
+ghost use Rattle.std.specs.Prelude.{◌≡◌, IfOk, IfErr};
+ghost use Rattle.ch_base.specs.JsonTree.{Members};
+ghost use Rattle.ch_json.specs.NodeOf.{IsObject};
+ghost use Rattle.ch_protocol.specs.ClientMessages.{Says, SaysObject, SaysEvent, event_of};
+ghost use Rattle.ch_frames.specs.Readings.{IsObjectOf, IsObjectDoc};
+ghost use Rattle.ch_frames.specs.Verdicts.{Tells, judged};
+ghost use Rattle.ch_frames.specs.Checked.{IsGoodMessage, IsRefusal};
+
+use crate::checks::fault_of;
+use crate::client_event::{Event, event_of};
+use crate::object::object_of;
+use crate::refused::Refused;
+use crate::shapes::{say, sign_in, subscribe, unsubscribe};
+use crate::values::string_member;
+use ch_base::Text;
+use ch_json::{Doc, Node};
+use ch_protocol::ClientMessage;
+use std::alloc::Global;
+
+/// The longest text, in bytes.
+const LONGEST_TEXT: usize = 65536;
+
+/// The message of a client's text, or the code of its first fault (Pusher Channels protocol, "Events
+/// that clients send" and "Client events").
+///
+/// The order of refusals: longer than 65,536 bytes is 4318; no JSON object in which no name stands
+/// twice, or without a string as its `event`, is 4310; an event that clients don't send is 4311; not
+/// the shape of the event is 4310; an invalid channel name is 4312; a client event with a name above
+/// 200 bytes or `data` above 10,240 bytes is 4318.
+pub fn parse(alloc: Global, text: &str) -> Result<ClientMessage, Refused>
+    ensures says { Tells (Says text.now) result }
+    ensures code { IfErr result IsRefusal }
+    ensures good { IfOk result IsGoodMessage }
+{
+    if text.len() > LONGEST_TEXT {
+        return Err(Refused::Code(4318));
+    }
+    said(alloc, text)
+}
+
+fn said(alloc: Global, text: &str) -> Result<ClientMessage, Refused>
+    ensures { Tells (SaysObject text.now) result }
+{
+    match object_of(alloc, text)? {
+        None => Err(Refused::Code(4310)),
+        Some(doc) => said_by_object(alloc, text, &doc),
+    }
+}
+
+fn said_by_object(alloc: Global, text: &str, doc: &Doc) -> Result<ClientMessage, Refused>
+    requires { IsObjectDoc text.now doc.now }
+    ensures { Tells (SaysObject text.now) result }
+{
+    let top = doc.top();
+    match string_member(alloc, text, doc, top, "event")? {
+        None => Err(Refused::Code(4310)),
+        Some(name) => said_by_event(alloc, text, doc, top, name),
+    }
+}
+
+fn said_by_event(
+    alloc: Global,
+    text: &str,
+    doc: &Doc,
+    node: Node,
+    name: Text,
+) -> Result<ClientMessage, Refused>
+    requires { IsObject text.now doc.now node }
+    ensures { (ms : Members) → IsObjectOf text.now doc.now node ms →
+        Tells (SaysEvent (event_of name) name text.now ms) result }
+{
+    match event_of(name.as_str()) {
+        Event::Ping => Ok(ClientMessage::Ping),
+        Event::Pong => Ok(ClientMessage::Pong),
+        Event::Subscribe => judged(subscribe(alloc, text, doc, node)?),
+        Event::Unsubscribe => judged(unsubscribe(alloc, text, doc, node)?),
+        Event::SignIn => judged(sign_in(alloc, text, doc, node)?),
+        Event::Client => judged(say(alloc, text, doc, node, name)?),
+        Event::Unknown => Err(Refused::Code(4311)),
+    }
+}
+
+/// The message of the event's shape, where its names and lengths are good.
+fn judged(shape: Option<ClientMessage>) -> Result<ClientMessage, Refused>
+    ensures { result ≡ judged shape }
+{
+    let Some(message) = shape else {
+        return Err(Refused::Code(4310));
+    };
+    match fault_of(&message) {
+        Some(code) => Err(Refused::Code(code)),
+        None => Ok(message),
+    }
+}
