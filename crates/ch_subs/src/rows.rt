@@ -1,4 +1,4 @@
-ghost use Rattle.std.specs.Prelude.{◌≡◌, ◌==◌, bytes_eq, filter, length, not, IfOk, slice_get};
+ghost use Rattle.std.specs.Prelude.{◌≡◌, ◌==◌, bytes_eq, filter, find, length, not, IfOk, slice_get};
 ghost use Rattle.std.specs.Option.{option_copied};
 ghost use Rattle.ch_history.specs.Subscriptions.{is_on, on_channel};
 ghost use Rattle.ch_subs.specs.Subs.{without_one, without_all, subscription};
@@ -28,6 +28,15 @@ pub fn count_of(subs: &[Subscription], socket: u64) -> usize
     ensures { result ≡ length (filter (λ s. s.socket == socket) subs.now) }
 {
     subs.iter().filter(|s| s.socket == socket).count()
+}
+
+/// The socket's subscription to the channel.
+pub fn find<'a>(subs: &'a [Subscription], socket: u64, channel: &Text) -> Option<&'a Subscription>
+    ensures { option_copied result ≡ find (λ s. s.socket == socket) (on_channel subs.now channel.now) }
+{
+    subs.iter()
+        .filter(|s| s.channel == *channel)
+        .find(|s| s.socket == socket)
 }
 
 /// The channel's subscription with this place among its subscriptions, counted from 0.

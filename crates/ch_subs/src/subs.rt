@@ -1,4 +1,4 @@
-ghost use Rattle.std.specs.Prelude.{◌≡◌, ◌<◌, [], length, IfOk, OnOk, OnErr, IsTrue, Ok, Some, None, find, slice_get, if◌then◌else◌};
+ghost use Rattle.std.specs.Prelude.{◌≡◌, ◌<◌, ◌==◌, [], length, IfOk, OnOk, OnErr, IsTrue, Ok, Some, None, find, slice_get, if◌then◌else◌};
 ghost use Rattle.std.specs.Option.{option_copied};
 ghost use Rattle.ch_history.specs.Subscriptions.{is_on, on_channel, channels_in};
 ghost use Rattle.ch_subs.specs.Subs.{joined, subscription, without_one, without_all};
@@ -87,11 +87,25 @@ impl Subs {
         count as u64
     }
 
+    /// How many subscriptions there are.
+    pub fn len(&self) -> u64
+        ensures { result ≡ length self.now }
+    {
+        self.rows.len() as u64
+    }
+
     /// Whether the socket is subscribed to the channel.
     pub fn on(&self, socket: u64, channel: &Text) -> bool
         ensures { result ≡ is_on self.now socket channel.now }
     {
         rows::is_on(self.rows.as_slice(), socket, channel)
+    }
+
+    /// The socket's subscription to the channel; none where it isn't on it.
+    pub fn find(&self, socket: u64, channel: &Text) -> Option<&Subscription>
+        ensures { option_copied result ≡ find (λ s. s.socket == socket) (on_channel self.now channel.now) }
+    {
+        rows::find(self.rows.as_slice(), socket, channel)
     }
 
     /// How many sockets are subscribed to the channel.

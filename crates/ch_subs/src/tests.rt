@@ -14,7 +14,10 @@ fn sockets_join_and_leave(rt: HostRuntime) -> Result<(), Fail> {
     assert!(rt; subs.join(1, &a, 5, None)? == JoinedAs::Fresh);
     assert!(rt; subs.join(2, &b, 6, None)? == JoinedAs::Fresh);
     assert!(rt; subs.on(2, &b) && !subs.on(2, &a));
+    assert_eq!(rt; subs.find(2, &b).map(|s| s.owner), Some(6));
+    assert!(rt; subs.find(2, &a).is_none());
     assert_eq!(rt; subs.count(&b), 2);
+    assert_eq!(rt; subs.len(), 3);
     assert_eq!(rt; subs.sub(&b, 0).owner, 5);
     assert_eq!(rt; subs.sub(&b, 1).owner, 6);
     assert_eq!(rt; subs.channels(1), 2);

@@ -1,0 +1,6 @@
+pub mod LeastId
+pub mod NthUser
+pub mod Counted
+pub mod SameUsers
+pub mod FirstRow
+pub mod SameChanges

@@ -1,0 +1,3 @@
+pub mod Members
+pub mod Users
+pub mod Subscribed

@@ -1,0 +1,31 @@
+ghost use Rattle.std.specs.Prelude.{◌≡◌, IfOk};
+ghost use Rattle.ch_presence.specs.Members.{present};
+
+use ch_base::{Member, Memory, Text};
+use std::alloc::Global;
+
+/// A socket that is on a presence channel as a member.
+#[derive(Debug, PartialEq, Eq, Drop)]
+pub struct Present {
+    pub channel: Text,
+    pub socket: u64,
+    pub member: Member,
+}
+
+impl Present {
+    /// A row with copies of the channel's name and of the member.
+    pub fn of(
+        alloc: Global,
+        channel: &Text,
+        socket: u64,
+        member: &Member,
+    ) -> Result<Present, Memory>
+        ensures { IfOk result (λ r. r ≡ present channel.now socket member.now) }
+    {
+        Ok(Present {
+            channel: channel.copy(alloc)?,
+            socket,
+            member: member.copy(alloc)?,
+        })
+    }
+}
