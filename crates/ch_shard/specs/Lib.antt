@@ -1,2 +1,10 @@
+pub mod Sound
+pub mod Told
+pub mod Parting
+pub mod Greeting
+pub mod Naming
+pub mod Parts
+pub mod Holds
+pub mod Tail
 pub mod Kept
 pub mod Stands

@@ -1,158 +1,95 @@
-ghost use Rattle.std.specs.Prelude.{◌≡◌, ◌<◌, ◌≤◌, ◌+◌, ℕ, [], ◌∷◌, ◌++◌, IsOk, IfOk, OnOk, MatchResult, vec_len, vec_capacity};
+ghost use Rattle.std.specs.Prelude.{◌≡◌, ◌<◌, ℕ, List, [], ◌∷◌, ◌++◌, length, slice_get, sum_by, IsOk, IfOk, IsTrue, Some, MatchResult};
 ghost use Rattle.ch_base.specs.Growth.{entry};
-ghost use Rattle.ch_base.specs.declared.frame.Frame.TheVariants.{Succeeded};
-ghost use Rattle.ch_outbox.specs.Outbox.{frames_of, spare_of};
+ghost use Rattle.ch_history.specs.Subscriptions.{subscriptions, subs};
+ghost use Rattle.ch_shard.specs.Tail.{tail_of};
+ghost use Rattle.ch_subs.specs.Names.{names};
 
-use crate::broadcast::broadcast;
-use crate::deliveries::{deliver, reserve_for};
-use crate::subscriptions::{count_on, is_on};
-use ch_base::{ChanAnswer, ChanCall, Frame, FrameFor, Memory, Text};
-use ch_history::Subscription;
-use ch_outbox::Outbox;
+use crate::brief::Brief;
+use crate::channels::Channels;
+use crate::tail::Tail;
+use ch_base::{ChanAnswer, ChanCall, Memory};
 use std::alloc::Global;
 use std::marker::Model;
 
-/// A channel shard, by plain lists of its open subscriptions and of each caller's waiting frames.
+/// A channel shard: its channels, and its last entries in brief.
 #[derive(Drop)]
 pub struct ChanShard {
-    alloc: Global,
-    subs: Vec<Subscription>,
-    outbox: Outbox,
+    channels: Channels,
+    tail: Tail,
 }
 
 impl Model for ChanShard {
-    ghost use Rattle.std.specs.Prelude.{◌<◌, All};
     ghost use Rattle.ch_shard.specs.Kept.{Kept};
 
     ghost Value = { Kept };
 
-    ghost view = { λ s. record { subs = s.subs.items; outbox = s.outbox } };
-
-    ghost invariant = { λ s. All (λ x. x.owner < 64) s.subs.items };
+    ghost view = { λ s. record { parts = s.channels; tail = s.tail } };
 }
 
 impl ChanShard {
-    ghost use Rattle.ch_base.specs.JsonText.{IsJsonString};
+    ghost use Rattle.ch_history.specs.ChannelName.{is_presence};
     ghost use Rattle.ch_history.specs.Entries.{ChanHistory};
+    ghost use Rattle.ch_history.specs.Laws.{OccupancyAlternates, MembershipAlternates, NewcomersGreeted};
     ghost use Rattle.ch_history.specs.WellFormed.{IsWellFormed};
-    ghost use Rattle.ch_shard.specs.Kept.{IsUnchanged, JoinGives, PublishGives, TakeGives};
-    ghost use Rattle.ch_shard.specs.Stands.{Stands, IsServed, HasAnswer};
+    ghost use Rattle.ch_shard.specs.Stands.{Stands, HasAnswer};
 
     /// A shard without subscriptions. It stands for the empty history.
     pub fn new(alloc: Global) -> Result<ChanShard, Memory>
         ensures { IfOk result (λ shard. Stands shard []) }
     {
         Ok(ChanShard {
-            alloc,
-            subs: Vec::new(alloc),
-            outbox: Outbox::new(alloc),
+            channels: Channels::new(alloc),
+            tail: Tail::new(alloc)?,
         })
     }
 
     /// Serves one call of a caller, who has a number below 64.
     ///
-    /// All memory of a call is taken before its first change.
+    /// All memory of a call is taken before its first change. The laws hold of every history that the
+    /// shard then stands for: `channel_occupied` and `channel_vacated` of each channel alternate and end
+    /// at whether a socket is subscribed, `member_added` and `member_removed` of each user of a presence
+    /// channel alternate and end at whether the user is there, and a newcomer of a cache channel is sent
+    /// exactly one of the latest event and a cache miss.
     pub fn apply(&mut self, caller: u64, call: &ChanCall) -> Result<ChanAnswer, Memory>
         requires caller { caller < 64 }
         requires formed { IsWellFormed call.now }
-        requires served { IsServed call.now }
         ensures stands { (h : ChanHistory) → Stands self.old h → MatchResult result
             (λ answer. Stands self.new (h ++ entry caller call.now answer ∷ []))
             (λ _. Stands self.new h) }
         ensures take { call.now ≡ ChanCall.Take → IsOk result }
+        ensures take_hooks { (at : ℕ) → call.now ≡ ChanCall.TakeHooks at → IsOk result }
         ensures kind { IfOk result (HasAnswer call.now) }
+        ensures occupancy { (h : ChanHistory) → Stands self.new h → (c : List ℕ) → OccupancyAlternates h c }
+        ensures membership { (h : ChanHistory) → Stands self.new h → (c id : List ℕ) → IsTrue (is_presence c) → MembershipAlternates h c id }
+        ensures newcomers { (h : ChanHistory) → Stands self.new h → NewcomersGreeted h }
     {
-        match call {
-            ChanCall::Join {
-                socket,
-                channel,
-                ..
-            } => self.join(caller, *socket, channel),
-            ChanCall::Publish {
-                channel,
-                event,
-                body,
-                except,
-                ..
-            } => self.publish(channel, event, body, *except),
-            ChanCall::Take => Ok(self.take(caller)),
-            _ => unreachable!(),
-        }
+        let answer = self.channels.serve(caller, call)?;
+        self.tail.note(caller, call);
+        Ok(answer)
     }
 
-    fn join(&mut self, caller: u64, socket: u64, channel: &Text) -> Result<ChanAnswer, Memory>
-        requires { caller < 64 }
-        ensures { MatchResult result (λ answer. JoinGives self.old self.new caller socket channel.now answer) (λ _. IsUnchanged self.old self.new) }
+    /// How many of the last entries are shown: all, or 1,024 where there are more.
+    pub fn tail_len(&self) -> u64
+        ensures len { result ≡ length self.now.tail }
+        ensures history { (h : ChanHistory) → Stands self.now h → result ≡ length (tail_of h) }
     {
-        if is_on(self.subs.as_slice(), socket, channel) {
-            return Ok(ChanAnswer::Already);
-        }
-        let (subscription, frame) = newcomer(self.alloc, caller, socket, channel)?;
-        reserve_one(&mut self.subs, &mut self.outbox, caller)?;
-        self.subs.push_reserved(subscription);
-        self.outbox.put(caller, frame);
-        Ok(ChanAnswer::Joined)
+        self.tail.len()
     }
 
-    fn publish(
-        &mut self,
-        channel: &Text,
-        event: &Text,
-        body: &Text,
-        except: Option<u64>,
-    ) -> Result<ChanAnswer, Memory>
-        ensures { MatchResult result (λ answer. PublishGives self.old self.new channel.now event.now body.now except answer) (λ _. IsUnchanged self.old self.new) }
+    /// The entry with this place among the last ones, the oldest of them at 0.
+    pub fn tail_at(&self, i: u64) -> Brief
+        requires { i < length self.now.tail }
+        ensures entry { slice_get self.now.tail i ≡ Some result }
+        ensures history { (h : ChanHistory) → Stands self.now h → slice_get (tail_of h) i ≡ Some result }
     {
-        let subs = self.subs.as_slice();
-        let made = broadcast(self.alloc, subs, channel, event, body, except)?;
-        let count = count_on(subs, channel) as u64;
-        reserve_for(&mut self.outbox, made.as_slice())?;
-        deliver(&mut self.outbox, made);
-        Ok(ChanAnswer::Sent {
-            subs: count,
-            users: 0,
-        })
+        self.tail.at(i)
     }
 
-    fn take(&mut self, caller: u64) -> ChanAnswer
-        requires { caller < 64 }
-        ensures { TakeGives self.old self.new caller result }
+    /// How many subscriptions are open, over all channels.
+    pub fn open_subs(&self) -> u64
+        ensures subs { result ≡ length self.now.parts.subs }
+        ensures history { (h : ChanHistory) → Stands self.now h → result ≡ sum_by (λ c. length (subs h c)) (names (subscriptions h)) }
     {
-        ChanAnswer::Frames(self.outbox.take_all(caller))
+        self.channels.open_subs()
     }
-}
-
-ghost use Rattle.ch_shard.specs.Kept.{newcomer};
-
-/// A newcomer's subscription and its first frame.
-fn newcomer(
-    alloc: Global,
-    caller: u64,
-    socket: u64,
-    channel: &Text,
-) -> Result<(Subscription, FrameFor), Memory>
-    ensures { IfOk result (λ made. (made.0 ≡ newcomer caller socket channel.now) × (made.1 ≡ record { socket = socket; frame = Succeeded channel.now })) }
-{
-    let subscription = Subscription {
-        channel: channel.copy(alloc)?,
-        socket,
-        owner: caller,
-        member: None,
-    };
-    let frame = Frame::Succeeded {
-        channel: channel.copy(alloc)?,
-    };
-    Ok((subscription, FrameFor { socket, frame }))
-}
-
-/// Makes room for one more subscription and for its owner's next frame.
-fn reserve_one(subs: &mut Vec<Subscription>, outbox: &mut Outbox, owner: u64) -> Result<(), Memory>
-    requires { owner < 64 }
-    ensures subs { subs.new.items ≡ subs.old.items }
-    ensures frames { (w : ℕ) → frames_of outbox.new w ≡ frames_of outbox.old w }
-    ensures room_subs { OnOk result (vec_len subs.new + 1 ≤ vec_capacity subs.new) }
-    ensures room_frames { OnOk result (1 ≤ spare_of outbox.new owner) }
-{
-    subs.reserve(1)?;
-    outbox.reserve(owner, 1)
 }

@@ -1,24 +1,41 @@
-use Rattle.std.proofs.Common.{subst}
-use Rattle.ch_history.specs.WellFormed.{IsWellFormed}
-use Rattle.ch_shard.specs.Kept.{JoinGives, PublishGives}
-use Rattle.ch_shard.specs.Stands.{IsServed}
-use Rattle.ch_shard.proofs.Simulation.{Stands-moves, Stands-served}
-use Rattle.ch_shard.proofs.Steps.{Moves-as, joins, publishes, takes_frames}
+use Rattle.std.proofs.Common.{◌∙◌, ◌++◌, ◌∷◌, [], ap, subst, sym}
+use Rattle.circular_buffer.specs.Buffer.{keep_last}
+use Rattle.ch_base.specs.Growth.{entry}
+use Rattle.ch_history.proofs.Occupancy.{occupancy_law}
+use Rattle.ch_history.proofs.Membership.{membership_law}
+use Rattle.ch_history.proofs.CacheNewcomer.{cache_newcomer_law}
+use Rattle.ch_shard.specs.Kept.{Kept}
+use Rattle.ch_shard.specs.Stands.{Stands}
+use Rattle.ch_shard.specs.Tail.{brief_of, max_tail}
+use Rattle.ch_shard.proofs.LastEntries.{tail-push}
 use Rattle.ch_shard.proofs.shard.ChanShard.apply.Goals as goal
 
-pub returns-in-Join-clause-stands : goal.returns-in-Join-clause-stands
-returns-in-Join-clause-stands c = λ h stands.
-    let formed = subst IsWellFormed c.in-Join.is c.requires.formed in
-    let served = subst IsServed c.in-Join.is c.requires.served in
-    Stands-served _ _ h _ _ (JoinGives c.args.self.now c.join.new.self c.args.caller c.in-Join.socket c.in-Join.channel) _ c.requires.caller c.requires.formed stands
-    (λ a gives. Moves-as _ _ _ _ _ _ a c.in-Join.is (joins _ _ _ _ _ _ _ _ a formed served gives)) c.join.ensures
+pub returns-clause-stands : goal.returns-clause-stands
+returns-clause-stands c = λ h stands.
+    let e = entry c.args.caller c.args.call.now c.in_ok-answer.answer in
+    let P = λ (k : Kept). Stands k h in
+    let before = subst P (sym c.self.view_is) stands in
+    let after = c.in_ok-answer.ensures.stands h before.parts in
+    record {
+      legal = after.legal;
+      parts = after;
+      tail = c.note.ensures ∙ ap (λ t. keep_last max_tail (t ++ brief_of e ∷ [])) before.tail ∙ tail-push h e;
+    }
 
-pub returns-in-Publish-clause-stands : goal.returns-in-Publish-clause-stands
-returns-in-Publish-clause-stands c = λ h stands.
-    let served = subst IsServed c.in-Publish.is c.requires.served in
-    Stands-served _ _ h _ _ (PublishGives c.args.self.now c.publish.new.self c.in-Publish.channel c.in-Publish.event c.in-Publish.body c.in-Publish.except) _ c.requires.caller c.requires.formed stands
-    (λ a gives. Moves-as _ _ _ _ _ _ a c.in-Publish.is (publishes _ _ _ _ _ _ _ _ _ a served gives)) c.publish.ensures
+pub returns-clause-occupancy : goal.returns-clause-occupancy
+returns-clause-occupancy c = λ h stands d. occupancy_law h stands.legal d
 
-pub returns-in-Take-clause-stands : goal.returns-in-Take-clause-stands
-returns-in-Take-clause-stands c = λ h stands.
-    Stands-moves _ _ h _ c.requires.caller c.requires.formed stands (Moves-as _ _ _ _ _ _ _ c.in-Take.is (takes_frames _ _ _ _ _ c.take.ensures))
+pub returns-clause-membership : goal.returns-clause-membership
+returns-clause-membership c = λ h stands d id kind. membership_law h stands.legal d id kind
+
+pub returns-clause-newcomers : goal.returns-clause-newcomers
+returns-clause-newcomers c = λ h stands. cache_newcomer_law h stands.legal
+
+pub returns-in_err-answer-clause-occupancy : goal.returns-in_err-answer-clause-occupancy
+returns-in_err-answer-clause-occupancy c = λ h stands d. occupancy_law h stands.legal d
+
+pub returns-in_err-answer-clause-membership : goal.returns-in_err-answer-clause-membership
+returns-in_err-answer-clause-membership c = λ h stands d id kind. membership_law h stands.legal d id kind
+
+pub returns-in_err-answer-clause-newcomers : goal.returns-in_err-answer-clause-newcomers
+returns-in_err-answer-clause-newcomers c = λ h stands. cache_newcomer_law h stands.legal

@@ -1,0 +1,55 @@
+-- What a take changes, and a look and a list don't, is what the definitions say of their entries.
+use Rattle.std.proofs.Common.{◌≡◌, ◌≢◌, ℕ, true, false, ◌==◌, cond, List, [], ◌++◌, refl, sym, ◌∙◌, append-nil, arith}
+use Rattle.std.proofs.lemmas.Bool.Decides.{nat_tests}
+use Rattle.ch_base.specs.Growth.{entry}
+use Rattle.ch_base.specs.declared.channel.ChanCall.TheVariants.{Take, TakeHooks, Names, Look, Users}
+use Rattle.ch_base.specs.declared.channel.ChanAnswer.{ChanAnswer}
+use Rattle.ch_history.specs.Entries.{ChanEntry}
+use Rattle.ch_history.specs.Subscriptions.{is_joined}
+use Rattle.ch_history.proofs.Lists.{list_any-false}
+use Rattle.ch_history.proofs.Subscriptions.{opens_nothing}
+use Rattle.ch_outbox.specs.Outbox.{frames_of}
+use Rattle.ch_shard.specs.Parts.{Parts, TakeGives, TakeHooksGives, looked, user_ids, name_rows}
+use Rattle.ch_shard.proofs.Simulation.{Moves, still, keeps, IsUnchanged-itself}
+use Rattle.ch_shard.proofs.Stays.{stay}
+
+pub takes_frames : (old new : Parts) (w : ℕ) (a : ChanAnswer) → TakeGives old new w a → Moves old new (entry w Take a)
+takes_frames old new w a gives =
+    let e : ChanEntry = entry w Take a in
+    record {
+      answered = gives.answered;
+      subs = gives.subs ∙ sym (stay old.subs e (list_any-false old.subs) (opens_nothing (is_joined a)));
+      latest = keeps old new gives.latest;
+      frames = λ v.
+          (elim (w == v) as (λ b. (w == v) ≡ b → frames_of new.outbox v ≡ cond b [] (frames_of old.outbox v ++ [])) [
+            | true ↦ (λ is. let same : v ≡ w = grind (arith, nat_tests) in rw same gives.emptied)
+            | false ↦ (λ is. let other : v ≢ w = grind (arith, nat_tests) in gives.others v other ∙ sym (append-nil (frames_of old.outbox v)))
+          ]) refl;
+      log = gives.log ∙ sym (append-nil old.log);
+    }
+
+pub takes_hooks : (old new : Parts) (w at : ℕ) (a : ChanAnswer) → TakeHooksGives old new a → Moves old new (entry w (TakeHooks at) a)
+takes_hooks old new w at a gives =
+    let e : ChanEntry = entry w (TakeHooks at) a in
+    record {
+      answered = gives.answered;
+      subs = gives.subs ∙ sym (stay old.subs e (list_any-false old.subs) (opens_nothing (is_joined a)));
+      latest = keeps old new gives.latest;
+      frames = λ v. gives.frames v ∙ sym (append-nil (frames_of old.outbox v));
+      log = gives.log;
+    }
+
+pub looks : (k : Parts) (w : ℕ) (c : List ℕ) (at : ℕ) (a : ChanAnswer) → a ≡ looked k.subs c → Moves k k (entry w (Look c at) a)
+looks k w c at a is =
+    let e : ChanEntry = entry w (Look c at) a in
+    still k k e (IsUnchanged-itself k) is (stay k.subs e (list_any-false k.subs) (opens_nothing (is_joined a))) (λ d. refl) (λ v. refl) refl refl refl
+
+pub lists_users : (k : Parts) (w : ℕ) (c : List ℕ) → Moves k k (entry w (Users c) (user_ids k.subs c))
+lists_users k w c =
+    let e : ChanEntry = entry w (Users c) (user_ids k.subs c) in
+    still k k e (IsUnchanged-itself k) refl (stay k.subs e (list_any-false k.subs) refl) (λ d. refl) (λ v. refl) refl refl refl
+
+pub lists_names : (k : Parts) (w : ℕ) (prefix : List ℕ) → Moves k k (entry w (Names prefix) (name_rows k.subs prefix))
+lists_names k w prefix =
+    let e : ChanEntry = entry w (Names prefix) (name_rows k.subs prefix) in
+    still k k e (IsUnchanged-itself k) refl (stay k.subs e (list_any-false k.subs) refl) (λ d. refl) (λ v. refl) refl refl refl

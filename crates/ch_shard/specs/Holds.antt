@@ -1,0 +1,19 @@
+-- Which histories the parts of a shard hold the outcome of.
+use Rattle.std.specs.Prelude.{◌≡◌, ℕ, ◌<◌, List}
+use Rattle.ch_history.specs.Entries.{ChanHistory}
+use Rattle.ch_history.specs.Subscriptions.{subscriptions}
+use Rattle.ch_history.specs.Cache.{latest}
+use Rattle.ch_history.specs.Frames.{waiting}
+use Rattle.ch_history.specs.Webhooks.{pending}
+use Rattle.ch_history.specs.Legal.{IsLegal}
+use Rattle.ch_cache.specs.Latest.{latest_in}
+use Rattle.ch_outbox.specs.Outbox.{frames_of}
+use Rattle.ch_shard.specs.Parts.{Parts}
+
+-- the history is legal, and the parts are what the history says
+pub record Holds (parts : Parts) (h : ChanHistory) : Type 0 where
+  pub legal : IsLegal h
+  pub subs : parts.subs ≡ subscriptions h
+  pub latest : (c : List ℕ) → latest_in parts.cache c ≡ latest h c
+  pub frames : (w : ℕ) → w < 64 → frames_of parts.outbox w ≡ waiting h w
+  pub log : parts.log ≡ pending h

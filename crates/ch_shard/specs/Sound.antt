@@ -1,0 +1,11 @@
+-- What the parts of a shard have in common.
+use Rattle.std.specs.Prelude.{◌≡◌, ◌<◌, List, All}
+use Rattle.ch_history.specs.declared.rows.Subscription.{Subscription}
+use Rattle.ch_presence.specs.declared.present.Present.{Present}
+use Rattle.ch_presence.specs.Subscribed.{HasMember, rows_of}
+
+-- each subscription is a caller's, and has a member exactly on a presence channel; who is present are these members
+pub record IsSound (xs : List Subscription) (rows : List Present) : Type 0 where
+  pub owners : All (λ s. s.owner < 64) xs
+  pub members : All HasMember xs
+  pub present : rows ≡ rows_of xs

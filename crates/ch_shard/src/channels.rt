@@ -1,0 +1,108 @@
+ghost use Rattle.std.specs.Prelude.{◌≡◌, ◌<◌, ℕ, [], ◌∷◌, ◌++◌, length, IsOk, IfOk, MatchResult};
+ghost use Rattle.ch_base.specs.Growth.{entry};
+
+use ch_base::{ChanAnswer, ChanCall, Memory};
+use ch_cache::Cache;
+use ch_hooklog::HookLog;
+use ch_outbox::Outbox;
+use ch_presence::Presence;
+use ch_subs::Subs;
+use std::alloc::Global;
+use std::marker::Model;
+
+/// The parts of a shard: the open subscriptions, who is present by them, the latest events of cache
+/// channels, the frames that wait for each caller, and the webhook events that wait for the next take.
+#[derive(Drop)]
+pub struct Channels {
+    pub(crate) alloc: Global,
+    pub(crate) subs: Subs,
+    pub(crate) presence: Presence,
+    pub(crate) cache: Cache,
+    pub(crate) outbox: Outbox,
+    pub(crate) log: HookLog,
+}
+
+impl Model for Channels {
+    ghost use Rattle.ch_shard.specs.Parts.{Parts};
+    ghost use Rattle.ch_shard.specs.Sound.{IsSound};
+
+    ghost Value = { Parts };
+
+    ghost view = { λ s. record { subs = s.subs; cache = s.cache; outbox = s.outbox; log = s.log.hooks } };
+
+    ghost invariant = { λ s. IsSound s.subs s.presence.rows };
+}
+
+impl Channels {
+    ghost use Rattle.ch_history.specs.Entries.{ChanHistory};
+    ghost use Rattle.ch_history.specs.WellFormed.{IsWellFormed};
+    ghost use Rattle.ch_shard.specs.Holds.{Holds};
+    ghost use Rattle.ch_shard.specs.Stands.{HasAnswer};
+
+    /// No channels. It takes no memory.
+    pub fn new(alloc: Global) -> Channels
+        ensures { Holds result [] }
+    {
+        Channels {
+            alloc,
+            subs: Subs::new(alloc),
+            presence: Presence::new(alloc),
+            cache: Cache::new(alloc),
+            outbox: Outbox::new(alloc),
+            log: HookLog::new(alloc),
+        }
+    }
+
+    /// How many subscriptions are open.
+    pub fn open_subs(&self) -> u64
+        ensures { result ≡ length self.now.subs }
+    {
+        self.subs.len()
+    }
+
+    /// Serves one call. All memory of a call is taken before its first change.
+    pub fn serve(&mut self, caller: u64, call: &ChanCall) -> Result<ChanAnswer, Memory>
+        requires caller { caller < 64 }
+        requires formed { IsWellFormed call.now }
+        ensures stands { (h : ChanHistory) → Holds self.old h → MatchResult result
+            (λ answer. Holds self.new (h ++ entry caller call.now answer ∷ []))
+            (λ _. Holds self.new h) }
+        ensures take { call.now ≡ ChanCall.Take → IsOk result }
+        ensures take_hooks { (at : ℕ) → call.now ≡ ChanCall.TakeHooks at → IsOk result }
+        ensures kind { IfOk result (HasAnswer call.now) }
+    {
+        match call {
+            ChanCall::Join {
+                socket,
+                channel,
+                member,
+                ..
+            } => self.join(caller, *socket, channel, member.as_ref()),
+            ChanCall::Leave {
+                socket,
+                channel,
+                ..
+            } => self.leave(*socket, channel),
+            ChanCall::Lost { socket, .. } => self.lost(*socket),
+            ChanCall::Publish {
+                channel,
+                event,
+                body,
+                except,
+                ..
+            } => self.publish(channel, event, body, *except),
+            ChanCall::Say {
+                socket,
+                channel,
+                event,
+                body,
+                ..
+            } => self.say(*socket, channel, event, body),
+            ChanCall::Take => Ok(self.take(caller)),
+            ChanCall::TakeHooks { .. } => Ok(self.take_hooks()),
+            ChanCall::Names { prefix } => self.names(prefix),
+            ChanCall::Look { channel, .. } => Ok(self.look(channel)),
+            ChanCall::Users { channel } => self.users(channel),
+        }
+    }
+}

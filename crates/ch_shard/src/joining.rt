@@ -1,0 +1,149 @@
+ghost use Rattle.std.specs.Prelude.{◌≡◌, ◌<◌, ◌&&◌, not, length, nat_le, IfOk, IsTrue, MatchResult};
+ghost use Rattle.std.specs.Option.{option_copied};
+ghost use Rattle.ch_history.specs.Answers.{is_crowded};
+ghost use Rattle.ch_history.specs.ChannelName.{is_good_name, is_presence};
+ghost use Rattle.ch_history.specs.Limits.{max_users};
+ghost use Rattle.ch_history.specs.Texts.{has_text};
+ghost use Rattle.ch_history.specs.Subscriptions.{on_channel};
+ghost use Rattle.ch_history.specs.WellFormed.{IsMemberOf};
+ghost use Rattle.ch_presence.specs.Members.{ids_on, with_newcomer};
+ghost use Rattle.ch_shard.specs.Greeting.{newcomer_row, IsAbsent};
+ghost use Rattle.ch_shard.specs.Parts.{IsUnchanged, JoinGives, newcomer, join_frames, join_hooks};
+
+use crate::channels::Channels;
+use crate::greeting::{
+    first_frame, log_arrival, log_missed, log_occupied, new_user, tell_arrival, tell_latest,
+};
+use crate::made::{Made, hand_over, make_room};
+use ch_base::{ChanAnswer, FrameFor, Hook, Member, Memory, Text};
+use ch_history::Delivery;
+use ch_presence::{Presence, Present};
+use std::alloc::Global;
+
+/// So many users fill a presence channel (Pusher Channels, "Presence channels", "Limits").
+const MAX_USERS: u64 = 100;
+
+impl Channels {
+    pub(crate) fn join(
+        &mut self,
+        caller: u64,
+        socket: u64,
+        channel: &Text,
+        member: Option<&Member>,
+    ) -> Result<ChanAnswer, Memory>
+        requires caller { caller < 64 }
+        requires name { IsTrue (is_good_name channel.now) }
+        requires member { IsMemberOf (is_presence channel.now) (option_copied member) }
+        ensures { MatchResult result (λ answer. JoinGives self.old self.new (newcomer caller socket channel.now (option_copied member.entry)) answer) (λ _. IsUnchanged self.old self.new) }
+    {
+        if self.subs.on(socket, channel) {
+            return Ok(ChanAnswer::Already);
+        }
+        if self.is_crowded(channel, member) {
+            return Ok(ChanAnswer::Crowded);
+        }
+        let row = newcomer_row(self.alloc, channel, socket, member)?;
+        let frames = self.greeting_frames(caller, socket, channel, member, row.as_ref())?;
+        let hooks = self.greeting_hooks(channel, member)?;
+        let made = Made { frames, hooks };
+        make_room(&mut self.outbox, &mut self.log, &made)?;
+        self.presence.reserve(1)?;
+        self.subs.join(socket, channel, caller, member)?;
+        enter(&mut self.presence, row);
+        hand_over(&mut self.outbox, &mut self.log, made);
+        Ok(ChanAnswer::Joined)
+    }
+
+    /// Whether the member would be a new user of a full presence channel.
+    fn is_crowded(&self, channel: &Text, member: Option<&Member>) -> bool
+        requires { IsMemberOf (is_presence channel.now) (option_copied member) }
+        ensures { result ≡ is_crowded channel.now (on_channel self.now.subs channel.now) (option_copied member.entry) }
+    {
+        match member {
+            None => false,
+            Some(member) => is_full_for(&self.presence, channel, &member.user_id),
+        }
+    }
+
+    /// The frames that the newcomer makes.
+    fn greeting_frames(
+        &self,
+        caller: u64,
+        socket: u64,
+        channel: &Text,
+        member: Option<&Member>,
+        row: Option<&Present>,
+    ) -> Result<Vec<Delivery>, Memory>
+        requires name { IsTrue (is_good_name channel.now) }
+        requires member { IsMemberOf (is_presence channel.now) (option_copied member) }
+        requires row { option_copied row ≡ newcomer_row channel.now socket (option_copied member) }
+        ensures { IfOk result (λ made. made.items ≡ join_frames self.now (newcomer caller socket channel.now (option_copied member.entry))) }
+    {
+        let mut frames = Vec::new(self.alloc);
+        let frame = first_frame(self.alloc, &self.presence, channel, row)?;
+        let item = FrameFor { socket, frame };
+        frames.push(Delivery {
+            owner: caller,
+            item,
+        })?;
+        tell_latest(
+            self.alloc,
+            &self.cache,
+            caller,
+            socket,
+            channel,
+            &mut frames,
+        )?;
+        let user = new_user(&self.presence, channel, member);
+        tell_arrival(self.alloc, &self.subs, channel, user, &mut frames)?;
+        Ok(frames)
+    }
+
+    /// The webhook events that the newcomer makes.
+    fn greeting_hooks(&self, channel: &Text, member: Option<&Member>) -> Result<Vec<Hook>, Memory>
+        requires name { IsTrue (is_good_name channel.now) }
+        requires member { IsMemberOf (is_presence channel.now) (option_copied member) }
+        ensures { IfOk result (λ made. made.items ≡ join_hooks self.now (newcomer 0 0 channel.now (option_copied member.entry))) }
+    {
+        let mut hooks = Vec::new(self.alloc);
+        let count = self.subs.count(channel);
+        log_occupied(self.alloc, count, channel, &mut hooks)?;
+        let user = new_user(&self.presence, channel, member);
+        log_arrival(self.alloc, channel, user, &mut hooks)?;
+        log_missed(self.alloc, &self.cache, channel, &mut hooks)?;
+        Ok(hooks)
+    }
+}
+
+/// Whether the channel is full and the user isn't on it.
+fn is_full_for(presence: &Presence, channel: &Text, user_id: &Text) -> bool
+    ensures { result ≡ (not (has_text (ids_on presence.now.rows channel.now) user_id.now) && nat_le max_users (length (ids_on presence.now.rows channel.now))) }
+{
+    !presence.has(channel, user_id) && presence.count(channel) >= MAX_USERS
+}
+
+/// The row of a newcomer with a member.
+fn newcomer_row(
+    alloc: Global,
+    channel: &Text,
+    socket: u64,
+    member: Option<&Member>,
+) -> Result<Option<Present>, Memory>
+    ensures { IfOk result (λ row. row ≡ newcomer_row channel.now socket (option_copied member.entry)) }
+{
+    match member {
+        None => Ok(None),
+        Some(member) => Ok(Some(Present::of(alloc, channel, socket, member)?)),
+    }
+}
+
+/// Puts the newcomer's row, where there is one. It takes no memory.
+fn enter(presence: &mut Presence, row: Option<Present>)
+    requires room { 0 < presence.old.spare }
+    requires absent { IsAbsent presence.old.rows row }
+    ensures { presence.new.rows ≡ with_newcomer presence.old.rows row }
+{
+    if let Some(row) = row {
+        presence.put(row);
+    }
+}

@@ -1,0 +1,56 @@
+ghost use Rattle.std.specs.Prelude.{◌≡◌, ℕ, ◌<◌, ◌≤◌, [], ◌++◌, All, OnOk, vec_len};
+ghost use Rattle.ch_history.specs.Deliveries.{for_owner};
+ghost use Rattle.ch_outbox.specs.Outbox.{frames_of, spare_of};
+
+use crate::deliveries::{deliver, log_all, reserve_for};
+use ch_base::{Hook, Memory};
+use ch_history::Delivery;
+use ch_hooklog::HookLog;
+use ch_outbox::Outbox;
+use std::alloc::Global;
+
+/// What a call makes: frames, each with its owner, and webhook events.
+#[derive(Drop)]
+pub struct Made {
+    pub frames: Vec<Delivery>,
+    pub hooks: Vec<Hook>,
+}
+
+impl Made {
+    /// Nothing. It takes no memory.
+    pub fn new(alloc: Global) -> Made
+        ensures frames { result.frames.items ≡ [] }
+        ensures hooks { result.hooks.items ≡ [] }
+    {
+        Made {
+            frames: Vec::new(alloc),
+            hooks: Vec::new(alloc),
+        }
+    }
+}
+
+/// Makes room for the frames of each owner and for the webhook events. Nothing else changes.
+pub fn make_room(outbox: &mut Outbox, log: &mut HookLog, made: &Made) -> Result<(), Memory>
+    requires { All (λ d. d.owner < 64) made.now.frames.items }
+    ensures frames { (w : ℕ) → frames_of outbox.new w ≡ frames_of outbox.old w }
+    ensures hooks { log.new.hooks ≡ log.old.hooks }
+    ensures room_frames { OnOk result (All (λ d. vec_len made.now.frames ≤ spare_of outbox.new d.owner) made.now.frames.items) }
+    ensures room_hooks { OnOk result (vec_len made.now.hooks ≤ log.new.spare) }
+{
+    reserve_for(outbox, made.frames.as_slice())?;
+    log.reserve(made.hooks.len() as u64)
+}
+
+/// Adds the frames at the end of their owners' ones, and the webhook events at the end of the log. It takes
+/// no memory.
+pub fn hand_over(outbox: &mut Outbox, log: &mut HookLog, made: Made)
+    requires owners { All (λ d. d.owner < 64) made.frames.items }
+    requires room_frames { All (λ d. vec_len made.frames ≤ spare_of outbox.old d.owner) made.frames.items }
+    requires room_hooks { vec_len made.hooks ≤ log.old.spare }
+    ensures frames { (w : ℕ) → frames_of outbox.new w ≡ frames_of outbox.old w ++ for_owner w made.frames.items }
+    ensures hooks { log.new.hooks ≡ log.old.hooks ++ made.hooks.items }
+{
+    let Made { frames, hooks } = made;
+    deliver(outbox, frames);
+    log_all(log, hooks);
+}
