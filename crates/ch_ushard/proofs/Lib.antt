@@ -1,0 +1,4 @@
+pub mod Simulation
+pub mod Steps
+pub mod Told
+pub mod OpenSigns

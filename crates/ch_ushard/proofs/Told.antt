@@ -1,0 +1,78 @@
+-- Frames for the sockets of a list: with one more socket, and their owners.
+use Rattle.std.proofs.Common.{◌≡◌, ℕ, zero, suc, ◌+◌, ◌<◌, ◌==◌, Bool, true, false, not, cond, List, [], ◌∷◌, ◌++◌, Option, Some, None, All, filter, map, flat_map, take, slice_get, bytes_eq, refl, ap, sym, ◌∙◌, subst, append-nil, arith}
+use Rattle.std.proofs.lemmas.List.{map-append}
+use Rattle.std.proofs.lemmas.Grind.{flat_map-append}
+use Rattle.std.proofs.lemmas.List.Elements.{filter-append, All-filter, All-get_or}
+use Rattle.std.proofs.lemmas.Option.{get_or_from_slice_get, slice_get_within}
+use Rattle.ch_base.specs.declared.frame.Frame.{Frame}
+use Rattle.ch_base.specs.declared.frame.Frame.TheVariants.{Watch}
+use Rattle.ch_history.specs.declared.rows.UserSocket.{UserSocket}
+use Rattle.ch_history.specs.Deliveries.{delivery}
+use Rattle.ch_history.specs.Frames.{is_other}
+use Rattle.ch_history.specs.SignIns.{user_socket, of_user, has_any}
+use Rattle.ch_history.specs.UserFrames.{to_socket, tell_watchers}
+use Rattle.ch_history.proofs.Lists.{filter-swap}
+use Rattle.ch_watch.specs.Watches.{SignsAndWatches, without}
+use Rattle.ch_ushard.specs.Made.{HasOwners, told, told_one, farewell}
+
+-- One more
+
+take_suc : {X : Type 0} (xs : List X) (i : ℕ) (x : X) → slice_get xs i ≡ Some x → take (suc i) xs ≡ take i xs ++ x ∷ []
+take_suc [] i x is = cc
+take_suc (y ∷ ys) zero x is = let same : y ≡ x = cc in ap (λ z. z ∷ []) same
+take_suc (y ∷ ys) (suc i) x is = ap (λ zs. y ∷ zs) (take_suc ys i x is)
+
+take_next : {X : Type 0} (xs : List X) (i : ℕ) (x : X) → slice_get xs i ≡ Some x → take (i + 1) xs ≡ take i xs ++ x ∷ []
+take_next xs i x is = let more : i + 1 ≡ suc i = omega arith in ap (λ n. take n xs) more ∙ take_suc xs i x is
+
+pub map_next : {X Y : Type 0} (f : X → Y) (xs : List X) (i : ℕ) (x : X) → slice_get xs i ≡ Some x → map f (take (i + 1) xs) ≡ map f (take i xs) ++ f x ∷ []
+map_next f xs i x is = ap (map f) (take_next xs i x is) ∙ map-append f (take i xs) (x ∷ [])
+
+pub flat_map_next : {X Y : Type 0} (f : X → List Y) (xs : List X) (i : ℕ) (x : X) → slice_get xs i ≡ Some x → flat_map f (take (i + 1) xs) ≡ flat_map f (take i xs) ++ f x
+flat_map_next f xs i x is =
+    ap (flat_map f) (take_next xs i x is) ∙ flat_map-append f (take i xs) (x ∷ []) ∙ ap (λ ys. flat_map f (take i xs) ++ ys) (append-nil (f x))
+
+-- one more socket that gets the frame, unless it is the excepted one
+pub told_next : (frame : Frame) (except : Option ℕ) (xs : List UserSocket) (i owner socket : ℕ) (user : List ℕ) → slice_get xs i ≡ Some (user_socket owner socket user)
+    → told frame except (take (i + 1) xs) ≡ told frame except (take i xs) ++ told_one frame except owner socket
+told_next frame except xs i owner socket user is =
+    let p : UserSocket → Bool = λ r. is_other except r.socket in
+    let r : UserSocket = user_socket owner socket user in
+    ap (told frame except) (take_next xs i r is)
+    ∙ ap (map (to_socket frame)) (filter-append p (take i xs) (r ∷ []))
+    ∙ map-append (to_socket frame) (filter p (take i xs)) (filter p (r ∷ []))
+    ∙ ap (λ ds. told frame except (take i xs) ++ ds) (elim (is_other except socket) as (λ b. map (to_socket frame) (cond b (r ∷ []) []) ≡ cond b (delivery owner socket frame ∷ []) []) [ true ↦ refl | false ↦ refl ])
+
+-- Owners
+
+All-at : {X : Type 0} (P : X → Type 0) (xs : List X) (i : ℕ) (x : X) → slice_get xs i ≡ Some x → All P xs → P x
+All-at P xs i x is all = subst P (get_or_from_slice_get xs i x x is) (All-get_or P xs i x (slice_get_within xs i x is) all)
+
+-- the owner of a row of the user is one of the owners
+pub owner_below : (xs : List UserSocket) (user : List ℕ) (i : ℕ) (r : UserSocket) → slice_get (of_user xs user) i ≡ Some r → All (λ r. r.owner < 64) xs → r.owner < 64
+owner_below xs user i r is all = All-at (λ r. r.owner < 64) (of_user xs user) i r is (All-filter (λ r. bytes_eq r.user user) (λ r. r.owner < 64) xs all)
+
+-- Watchers
+
+keep_all : (xs : List UserSocket) → filter (λ r. true) xs ≡ xs
+keep_all [] = refl
+keep_all (x ∷ xs) = ap (λ ys. x ∷ ys) (keep_all xs)
+
+-- where no socket is signed in as the user yet, each watcher hears of it
+pub tells_all : (signs seen : List UserSocket) (user : List ℕ) → has_any signs user ≡ false → told (Watch true user) None (of_user seen user) ≡ tell_watchers true signs seen user
+tells_all signs seen user none =
+    ap (map (to_socket (Watch true user))) (keep_all (of_user seen user))
+    ∙ sym (ap (λ b. cond b [] (map (to_socket (Watch true user)) (of_user seen user))) none)
+
+-- where no other socket is signed in as the user, each other watcher hears of it
+pub tells_others : (w : SignsAndWatches) (socket : ℕ) (user : List ℕ) → has_any (without w.signs socket) user ≡ false → told (Watch false user) (Some socket) (of_user w.watches user) ≡ farewell w socket user
+tells_others w socket user none =
+    ap (map (to_socket (Watch false user))) (filter-swap (λ r. not (r.socket == socket)) (λ r. bytes_eq r.user user) w.watches)
+    ∙ sym (ap (λ b. cond b [] (map (to_socket (Watch false user)) (of_user (without w.watches socket) user))) none)
+
+-- without a socket's rows the owners are still callers' numbers
+pub HasOwners-without : (old new : SignsAndWatches) (socket : ℕ) → new.signs ≡ without old.signs socket → new.watches ≡ without old.watches socket → HasOwners old → HasOwners new
+HasOwners-without old new socket signs watches owners = record {
+  signs = subst (All (λ r. r.owner < 64)) (sym signs) (All-filter (λ r. not (r.socket == socket)) (λ r. r.owner < 64) old.signs owners.signs);
+  watches = subst (All (λ r. r.owner < 64)) (sym watches) (All-filter (λ r. not (r.socket == socket)) (λ r. r.owner < 64) old.watches owners.watches);
+}

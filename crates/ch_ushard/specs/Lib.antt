@@ -1,0 +1,4 @@
+pub mod Made
+pub mod Kept
+pub mod Stands
+pub mod OpenSigns

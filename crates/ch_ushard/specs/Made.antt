@@ -1,0 +1,31 @@
+-- The frames that a call makes, by the sign-ins and the watches before it.
+use Rattle.std.specs.Prelude.{ℕ, ◌<◌, ◌≤◌, false, List, [], ◌∷◌, Option, All, filter, length, map, if◌then◌else◌}
+use Rattle.ch_base.specs.declared.frame.Frame.{Frame}
+use Rattle.ch_history.specs.declared.rows.UserSocket.{UserSocket}
+use Rattle.ch_history.specs.declared.rows.Delivery.{Delivery}
+use Rattle.ch_history.specs.Deliveries.{delivery}
+use Rattle.ch_history.specs.Frames.{is_other}
+use Rattle.ch_history.specs.UserFrames.{to_socket, tell_watchers}
+use Rattle.ch_outbox.specs.Outbox.{Waiting, spare_of}
+use Rattle.ch_watch.specs.Watches.{SignsAndWatches, without}
+
+-- there is room for all of these frames at each owner of one
+abbrev pub HasRoom : List Waiting → List Delivery → Type 0
+HasRoom rows made = All (λ d. length made ≤ spare_of rows d.owner) made
+
+-- each owner is a caller's number, which is below 64
+pub record HasOwners (w : SignsAndWatches) : Type 0 where
+  pub signs : All (λ r. r.owner < 64) w.signs
+  pub watches : All (λ r. r.owner < 64) w.watches
+
+-- the frame for the socket of its owner, unless that is the excepted one
+abbrev pub told_one : Frame → Option ℕ → ℕ → ℕ → List Delivery
+told_one frame except owner socket = if is_other except socket then delivery owner socket frame ∷ [] else []
+
+-- the frame for each of these sockets but the excepted one
+abbrev pub told : Frame → Option ℕ → List UserSocket → List Delivery
+told frame except xs = map (to_socket frame) (filter (λ r. is_other except r.socket) xs)
+
+-- what the end of the socket's sign-in as the user makes, after the end of all its watches and sign-ins
+abbrev pub farewell : SignsAndWatches → ℕ → List ℕ → List Delivery
+farewell w socket user = tell_watchers false (without w.signs socket) (without w.watches socket) user

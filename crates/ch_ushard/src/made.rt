@@ -1,0 +1,72 @@
+ghost use Rattle.std.specs.Prelude.{◌≡◌, ℕ, ◌<◌, [], ◌∷◌, ◌++◌, OnOk};
+ghost use Rattle.ch_history.specs.Deliveries.{delivery, for_owner};
+ghost use Rattle.ch_outbox.specs.Outbox.{frames_of};
+ghost use Rattle.ch_ushard.specs.Made.{HasRoom};
+
+use crate::deliveries::{deliver, reserve_for};
+use ch_base::{Frame, FrameFor, Memory};
+use ch_history::Delivery;
+use ch_outbox::Outbox;
+use ch_watch::Holder;
+use std::alloc::Global;
+use std::marker::Model;
+
+/// The frames that a call makes, each with its owner, a number below 64.
+#[derive(Drop)]
+pub struct Made {
+    frames: Vec<Delivery>,
+}
+
+impl Model for Made {
+    ghost use Rattle.std.specs.Prelude.{List, ◌<◌, All};
+    ghost use Rattle.ch_history.specs.declared.rows.Delivery.{Delivery};
+
+    ghost Value = { List Delivery };
+
+    ghost view = { λ m. m.frames.items };
+
+    ghost invariant = { λ m. All (λ d. d.owner < 64) m.frames.items };
+}
+
+impl Made {
+    /// No frames. It takes no memory.
+    pub fn new(alloc: Global) -> Made
+        ensures { result ≡ [] }
+    {
+        Made {
+            frames: Vec::new(alloc),
+        }
+    }
+
+    /// Adds a frame for the socket.
+    pub fn push(&mut self, holder: Holder, frame: Frame) -> Result<(), Memory>
+        requires { holder.owner < 64 }
+        ensures { OnOk result (self.new ≡ self.old ++ delivery holder.owner holder.socket frame ∷ []) }
+    {
+        self.frames.push(Delivery {
+            owner: holder.owner,
+            item: FrameFor {
+                socket: holder.socket,
+                frame,
+            },
+        })?;
+        Ok(())
+    }
+
+    /// Makes room for the frames of each owner. No frames change, also where there is no memory.
+    pub fn reserve(&self, outbox: &mut Outbox) -> Result<(), Memory>
+        ensures frames { (w : ℕ) → frames_of outbox.new w ≡ frames_of outbox.old w }
+        ensures room { OnOk result (HasRoom outbox.new self.now) }
+    {
+        reserve_for(outbox, self.frames.as_slice())
+    }
+
+    /// Adds the frames at the end of their owners' ones. It takes no memory.
+    pub fn deliver(self, outbox: &mut Outbox)
+        requires { HasRoom outbox.old self }
+        ensures { (w : ℕ) → frames_of outbox.new w ≡ frames_of outbox.old w ++ for_owner w self }
+    {
+        let Made { frames } = self;
+        deliver(outbox, frames);
+    }
+}

@@ -1,0 +1,75 @@
+ghost use Rattle.std.specs.Prelude.{◌≡◌, ◌<◌, [], ◌∷◌, true, IfOk, MatchResult, if◌then◌else◌};
+ghost use Rattle.ch_base.specs.declared.frame.Frame.TheVariants.{Watch};
+ghost use Rattle.ch_history.specs.Deliveries.{delivery};
+ghost use Rattle.ch_history.specs.SignIns.{has_any};
+ghost use Rattle.ch_ushard.specs.Kept.{IsUnchanged, SignInGives, WatchGives};
+
+use crate::made::Made;
+use crate::shard::UserShard;
+use crate::telling::greeting;
+use ch_base::{Frame, Memory, Text, UserAnswer};
+use ch_watch::{Holder, Watches};
+use std::alloc::Global;
+
+impl UserShard {
+    pub(crate) fn sign_in(
+        &mut self,
+        caller: u64,
+        socket: u64,
+        user: &Text,
+    ) -> Result<UserAnswer, Memory>
+        requires { caller < 64 }
+        ensures { MatchResult result (λ answer. SignInGives self.old self.new caller socket user.now answer) (λ _. IsUnchanged self.old self.new) }
+    {
+        if self.watches.is_signed_in(socket, user) {
+            return Ok(UserAnswer::AlreadyIn);
+        }
+        let made = greeting(self.alloc, &self.watches, user)?;
+        made.reserve(&mut self.outbox)?;
+        self.watches.sign_in(socket, user, caller)?;
+        made.deliver(&mut self.outbox);
+        Ok(UserAnswer::SignedIn)
+    }
+
+    pub(crate) fn watch(
+        &mut self,
+        caller: u64,
+        socket: u64,
+        watched: &Text,
+    ) -> Result<UserAnswer, Memory>
+        requires { caller < 64 }
+        ensures { MatchResult result (λ answer. WatchGives self.old self.new caller socket watched.now answer) (λ _. IsUnchanged self.old self.new) }
+    {
+        if self.watches.is_watching(socket, watched) {
+            return Ok(UserAnswer::AlreadyWatching);
+        }
+        let watcher = Holder {
+            socket,
+            owner: caller,
+        };
+        let made = first_word(self.alloc, &self.watches, watcher, watched)?;
+        made.reserve(&mut self.outbox)?;
+        self.watches.watch(socket, watched, caller)?;
+        made.deliver(&mut self.outbox);
+        Ok(UserAnswer::Watching)
+    }
+}
+
+/// What tells a new watcher that the user is online, where it is.
+fn first_word(
+    alloc: Global,
+    watches: &Watches,
+    watcher: Holder,
+    user: &Text,
+) -> Result<Made, Memory>
+    requires { watcher.owner < 64 }
+    ensures { IfOk result (λ made. made ≡ (if has_any watches.now.signs user.now then delivery watcher.owner watcher.socket (Watch true user.now) ∷ [] else [])) }
+{
+    let mut made = Made::new(alloc);
+    if watches.is_online(user) {
+        let user_id = user.copy(alloc)?;
+        let online = true;
+        made.push(watcher, Frame::Watch { online, user_id })?;
+    }
+    Ok(made)
+}

@@ -1,0 +1,10 @@
+use Rattle.std.proofs.Common.{◌≡◌, ◌∙◌, ap, sym, slice_get, Some}
+use Rattle.ch_history.specs.SignIns.{of_user}
+use Rattle.ch_watch.proofs.OfUser.{of_user-at}
+use Rattle.ch_watch.proofs.user_rows.UserRows.holder.Goals as goal
+
+pub returns : goal.returns
+returns c =
+    let is : slice_get (of_user c.args.self.now c.args.user.now) c.args.i ≡ Some c.in-Some.row.now =
+    ap (λ xs. slice_get (of_user xs c.args.user.now) c.args.i) (sym (c.as_slice.ensures.value ∙ c.self.view_is)) ∙ sym c.in-Some.ensures in
+    of_user-at c.args.self.now c.args.user.now c.args.i c.in-Some.row.now is
