@@ -1,0 +1,4 @@
+pub mod Answering
+pub mod UserAnswering
+pub mod Seats
+pub mod Benches

@@ -1,0 +1,26 @@
+-- What contracts see of a bench.
+use Rattle.std.specs.Prelude.{ℕ, ◌≤◌, ◌<◌, List, [], length, slice_index_or}
+use Rattle.ch_history.specs.Entries.{ChanHistory, UserHistory}
+use Rattle.ch_history.specs.Placement.{IsLegalAt, IsUserLegalAt}
+
+-- the history of each channel shard, and of each user shard
+pub record BenchModel : Type 0 where
+  pub shards : List ChanHistory
+  pub users : List UserHistory
+
+-- the history of the channel shard k
+abbrev pub seen : BenchModel → ℕ → ChanHistory
+seen bench k = slice_index_or bench.shards k []
+
+-- the history of the user shard k
+abbrev pub seen_user : BenchModel → ℕ → UserHistory
+seen_user bench k = slice_index_or bench.users k []
+
+-- there are 1 to 64 shards of each kind, and each history is a legal one of its shard
+pub record IsBench (bench : BenchModel) : Type 0 where
+  pub some : 1 ≤ length bench.shards
+  pub few : length bench.shards ≤ 64
+  pub some_users : 1 ≤ length bench.users
+  pub few_users : length bench.users ≤ 64
+  pub legal : (k : ℕ) → k < length bench.shards → IsLegalAt (k, length bench.shards) (seen bench k)
+  pub legal_users : (k : ℕ) → k < length bench.users → IsUserLegalAt (k, length bench.users) (seen_user bench k)
