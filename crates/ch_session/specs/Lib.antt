@@ -1,0 +1,9 @@
+pub mod Judging
+pub mod Kept
+pub mod Losses
+pub mod MadeAnswers
+pub mod ReadTexts
+pub mod Signed
+pub mod StartFaults
+pub mod Told
+pub mod Waits

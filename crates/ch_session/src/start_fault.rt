@@ -1,0 +1,22 @@
+use ch_base::Memory;
+
+/// Why a connection isn't opened.
+#[derive(Clone, Copy, Debug, PartialEq, Eq)]
+pub enum StartFault {
+    /// The target is refused with this code: 4005, 4001, 4008, 4006 or 4007 (Pusher Channels protocol,
+    /// "Error codes").
+    Code(u16),
+    /// There is no memory.
+    Memory,
+}
+
+impl From<Memory> for StartFault {
+    ghost use Rattle.std.specs.Prelude.{◌≡◌};
+    ghost use Rattle.ch_session.specs.declared.start_fault.StartFault.TheVariants as fault;
+
+    ghost from_gives = { λ memory result. result ≡ fault.Memory };
+
+    fn from(_: Memory) -> StartFault {
+        StartFault::Memory
+    }
+}
