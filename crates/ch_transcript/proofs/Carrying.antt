@@ -1,117 +1,124 @@
 -- How the outcome of a transcript follows from that of its lines so far.
-use Rattle.std.proofs.Common.{◌≡◌, ℕ, Bool, true, false, nat_lt, ◌+◌, ◌<◌, ◌≤◌, ◌∙◌, ap, sym, refl, List, [], ◌∷◌, ◌++◌, length, cond, append_assoc, append-nil, length-append, arith}
-use Rattle.std.specs.Prelude.{Option, Some, None}
-use Rattle.ch_transcript.specs.Replayed.{IsPrefix}
+use Rattle.std.proofs.Common.{◌≡◌, ℕ, Bool, false, ◌+◌, ◌<◌, ◌≤◌, ◌∙◌, ap, sym, subst, refl, List, [], ◌∷◌, ◌++◌, length, append_assoc, append-nil, length-append, arith}
+use Rattle.std.specs.Prelude.{Option, Some, None, MatchBool}
 use Rattle.std.proofs.lemmas.Bool.{le-ltb, lt-ltb}
+use Rattle.ch_config.specs.declared.config.Config.{Config}
 use Rattle.ch_transcript.specs.Lines.{longest_line, has_line_end, lines_of, whole_lines}
 use Rattle.ch_transcript.specs.Printing.{error_line, long_line}
-use Rattle.ch_transcript.specs.Transcript.{Progress, beginning, Played, played, Outcome, ends, after_text, followed, outcome_from, outcome}
+use Rattle.ch_transcript.specs.Transcript.{Progress, beginning, Played, Plays, Outcome, ends, after_text, Follows, OutcomeFrom, HasOutcome}
 use Rattle.ch_transcript.proofs.LineLemmas.{lines_of-line, lines_of-begun, lines_of-last, whole_lines-end, whole_lines-none}
 
 -- these whole lines have written this, and come so far: the next line is the nth
-pub record Carries (done wrote : List ℕ) (n : ℕ) (p : Progress) : Type 0 where
-  pub on : (rest : List ℕ) → outcome (done ++ rest) ≡ after_text wrote (outcome_from n p (lines_of rest))
+pub record Carries (config : Config) (done wrote : List ℕ) (n : ℕ) (p : Progress) : Type 0 where
+  pub on : (rest : List ℕ) (o : Outcome) → OutcomeFrom config n p (lines_of rest) o → HasOutcome config (done ++ rest) (after_text wrote o)
   pub whole : (rest : List ℕ) → whole_lines (done ++ rest) ≡ done ++ whole_lines rest
 
-pub Carries-begin : Carries [] [] 1 beginning
-Carries-begin = record { on = λ rest. refl; whole = λ rest. refl }
+pub Carries-begin : (config : Config) → Carries config [] [] 1 beginning
+Carries-begin config = record { on = λ rest o h. h; whole = λ rest. refl }
+
+-- ---- one line
+
+-- what follows a line that isn't too long
+pub outcome-line : (config : Config) (n : ℕ) (p : Progress) (line : List ℕ) (lines : List (List ℕ)) (x : Option Played) (o : Outcome) → length line ≤ longest_line → Plays config p line x
+    → Follows n (λ q later. OutcomeFrom config (n + 1) q lines later) x o → OutcomeFrom config n p (line ∷ lines) o
+outcome-line config n p line lines x o short plays follows =
+    let P : Bool → Type 0 = λ t. MatchBool t (o ≡ ends 8 (long_line n))
+    ((y : Option Played) × Plays config p line y × Follows n (λ q later. OutcomeFrom config (n + 1) q lines later) y o) in
+    subst P (sym (le-ltb longest_line (length line) short)) (x, plays, follows)
+
+pub outcome-long : (config : Config) (n : ℕ) (p : Progress) (line : List ℕ) (lines : List (List ℕ)) → longest_line < length line → OutcomeFrom config n p (line ∷ lines) (ends 8 (long_line n))
+outcome-long config n p line lines long =
+    let P : Bool → Type 0 = λ t. MatchBool t (ends 8 (long_line n) ≡ ends 8 (long_line n))
+    ((y : Option Played) × Plays config p line y × Follows n (λ q later. OutcomeFrom config (n + 1) q lines later) y (ends 8 (long_line n))) in
+    subst P (sym (lt-ltb longest_line (length line) long)) refl
+
+-- ---- outcomes under equal names
+
+-- of equal bytes, with an equal outcome
+pub moved : (config : Config) {a b : List ℕ} {o r : Outcome} → a ≡ b → o ≡ r → HasOutcome config a o → HasOutcome config b r
+moved config {a} {b} {o} {r} same_bytes same_outcome h =
+    let P : List ℕ → Type 0 = λ z. HasOutcome config z o in
+    let Q : Outcome → Type 0 = λ z. HasOutcome config b z in
+    subst Q same_outcome (subst P same_bytes h)
+
+-- of equal lines
+from_lines : (config : Config) (n : ℕ) (p : Progress) (a b : List (List ℕ)) (o : Outcome) → a ≡ b → OutcomeFrom config n p b o → OutcomeFrom config n p a o
+from_lines config n p a b o same h =
+    let P : List (List ℕ) → Type 0 = λ z. OutcomeFrom config n p z o in subst P (sym same) h
 
 pub after_two : (a b : List ℕ) (o : Outcome) → after_text a (after_text b o) ≡ after_text (a ++ b) o
 after_two a b o = ap (ends o.status) (sym (append_assoc a b o.text))
 
-is_short : (line : List ℕ) → length line ≤ longest_line → nat_lt longest_line (length line) ≡ false
-is_short line h = le-ltb longest_line (length line) h
-
-is_long : (line : List ℕ) → longest_line < length line → nat_lt longest_line (length line) ≡ true
-is_long line h = lt-ltb longest_line (length line) h
-
--- a line that says something
-pub outcome-line : (n : ℕ) (p : Progress) (line : List ℕ) (lines : List (List ℕ)) (o : Option Played) → length line ≤ longest_line → played p line ≡ o
-    → outcome_from n p (line ∷ lines) ≡ followed n (λ q. outcome_from (n + 1) q lines) o
-outcome-line n p line lines o short is =
-    ap (λ (t : Bool). cond t (ends 8 (long_line n)) (followed n (λ q. outcome_from (n + 1) q lines) (played p line))) (is_short line short)
-    ∙ ap (followed n (λ q. outcome_from (n + 1) q lines)) is
-
-pub outcome-long : (n : ℕ) (p : Progress) (line : List ℕ) (lines : List (List ℕ)) → longest_line < length line → outcome_from n p (line ∷ lines) ≡ ends 8 (long_line n)
-outcome-long n p line lines long =
-    ap (λ (t : Bool). cond t (ends 8 (long_line n)) (followed n (λ q. outcome_from (n + 1) q lines) (played p line))) (is_long line long)
-
 seam : (done line rest : List ℕ) → (done ++ (line ++ 10 ∷ [])) ++ rest ≡ done ++ (line ++ 10 ∷ rest)
 seam done line rest = append_assoc done (line ++ 10 ∷ []) rest ∙ ap (λ z. done ++ z) (append_assoc line (10 ∷ []) rest)
 
-pub Carries-line : {done wrote : List ℕ} {n : ℕ} {p : Progress} (line : List ℕ) (x : Played) → Carries done wrote n p → has_line_end line ≡ false → length line ≤ longest_line
-    → played p line ≡ Some x → Carries (done ++ (line ++ 10 ∷ [])) (wrote ++ x.text) (n + 1) x.next
-Carries-line {done} {wrote} {n} {p} line x c none short is = record {
-  on = λ rest. ap outcome (seam done line rest) ∙ c.on (line ++ 10 ∷ rest) ∙ ap (λ ls. after_text wrote (outcome_from n p ls)) (lines_of-line line rest none)
-      ∙ ap (after_text wrote) (outcome-line n p line (lines_of rest) (Some x) short is) ∙ after_two wrote x.text (outcome_from (n + 1) x.next (lines_of rest));
+-- ---- more lines
+
+-- a line that says something
+pub Carries-line : {config : Config} {done wrote : List ℕ} {n : ℕ} {p : Progress} (line : List ℕ) (x : Played) → Carries config done wrote n p → has_line_end line ≡ false → length line ≤ longest_line
+    → Plays config p line (Some x) → Carries config (done ++ (line ++ 10 ∷ [])) (wrote ++ x.text) (n + 1) x.next
+Carries-line {config} {done} {wrote} {n} {p} line x c none short plays = record {
+  on = λ rest o later. moved config (sym (seam done line rest)) (after_two wrote x.text o)
+      (c.on (line ++ 10 ∷ rest) (after_text x.text o)
+      (from_lines config n p _ _ _ (lines_of-line line rest none)
+      (outcome-line config n p line (lines_of rest) (Some x) (after_text x.text o) short plays (o, later, refl))));
   whole = λ rest. ap whole_lines (seam done line rest) ∙ c.whole (line ++ 10 ∷ rest) ∙ ap (λ z. done ++ z) (whole_lines-end line rest) ∙ sym (seam done line (whole_lines rest));
 }
 
--- the outcome of what is left, where the lines so far are all
-on_nothing : {done wrote : List ℕ} {n : ℕ} {p : Progress} → Carries done wrote n p → outcome done ≡ ends 0 wrote
-on_nothing {done} {wrote} c = ap outcome (sym (append-nil done)) ∙ c.on [] ∙ ap (ends 0) (append-nil wrote)
+-- the outcome of the lines so far alone
+pub on_nothing : {config : Config} {done wrote : List ℕ} {n : ℕ} {p : Progress} → Carries config done wrote n p → HasOutcome config done (ends 0 wrote)
+on_nothing {config} {done} {wrote} c = moved config (append-nil done) (ap (ends 0) (append-nil wrote)) (c.on [] (ends 0 []) refl)
+
+-- the lines so far are whole
+pub done_whole : {config : Config} {done wrote : List ℕ} {n : ℕ} {p : Progress} → Carries config done wrote n p → whole_lines done ≡ done
+done_whole {done} c = ap whole_lines (sym (append-nil done)) ∙ c.whole [] ∙ append-nil done
+
+-- ---- endings
 
 -- the source ended
-pub Carries-ended : {done wrote : List ℕ} {n : ℕ} {p : Progress} (read : List ℕ) → Carries done wrote n p → read ≡ done → outcome read ≡ ends 0 wrote
-Carries-ended read c e = ap outcome e ∙ on_nothing c
+pub Carries-ended : {config : Config} {done wrote : List ℕ} {n : ℕ} {p : Progress} (read : List ℕ) → Carries config done wrote n p → read ≡ done → HasOutcome config read (ends 0 wrote)
+Carries-ended {config} read c e = moved config (sym e) refl (on_nothing c)
 
 -- a read failed
-pub Carries-failed : {done wrote : List ℕ} {n : ℕ} {p : Progress} (read line : List ℕ) → Carries done wrote n p → read ≡ done ++ line → has_line_end line ≡ false
-    → outcome (whole_lines read) ≡ ends 0 wrote
-Carries-failed {done} read line c e none =
-    ap outcome (ap whole_lines e ∙ c.whole line ∙ ap (λ z. done ++ z) (whole_lines-none line none) ∙ append-nil done) ∙ on_nothing c
+pub Carries-failed : {config : Config} {done wrote : List ℕ} {n : ℕ} {p : Progress} (read line : List ℕ) → Carries config done wrote n p → read ≡ done ++ line → has_line_end line ≡ false
+    → HasOutcome config (whole_lines read) (ends 0 wrote)
+Carries-failed {config} {done} read line c e none =
+    moved config (sym (ap whole_lines e ∙ c.whole line ∙ ap (λ z. done ++ z) (whole_lines-none line none) ∙ append-nil done)) refl (on_nothing c)
 
 -- the last line says something
-pub Carries-last : {done wrote : List ℕ} {n : ℕ} {p : Progress} (read line : List ℕ) (x : Played) → Carries done wrote n p → read ≡ done ++ line → has_line_end line ≡ false → length line ≤ longest_line
-    → 0 < length line → played p line ≡ Some x → outcome read ≡ ends 0 (wrote ++ x.text)
-Carries-last {wrote} {n} {p} read line x c e none short some is =
-    ap outcome e ∙ c.on line ∙ ap (λ ls. after_text wrote (outcome_from n p ls)) (lines_of-last line none some)
-    ∙ ap (after_text wrote) (outcome-line n p line [] (Some x) short is ∙ ap (ends 0) (append-nil x.text))
+pub Carries-last : {config : Config} {done wrote : List ℕ} {n : ℕ} {p : Progress} (read line : List ℕ) (x : Played) → Carries config done wrote n p → read ≡ done ++ line → has_line_end line ≡ false → length line ≤ longest_line
+    → 0 < length line → Plays config p line (Some x) → HasOutcome config read (ends 0 (wrote ++ x.text))
+Carries-last {config} {wrote} {n} {p} read line x c e none short some plays =
+    moved config (sym e) refl (c.on line (ends 0 x.text)
+    (from_lines config n p _ _ _ (lines_of-last line none some)
+    (outcome-line config n p line [] (Some x) (ends 0 x.text) short plays (ends 0 [], refl, ap (ends 0) (sym (append-nil x.text))))))
 
 -- a line is refused, however the input goes on
-pub Carries-refused : {done wrote : List ℕ} {n : ℕ} {p : Progress} (read line new rest : List ℕ) → Carries done wrote n p → read ≡ done ++ (line ++ 10 ∷ new) → has_line_end line ≡ false → length line ≤ longest_line
-    → played p line ≡ None → outcome (read ++ rest) ≡ ends 4 (wrote ++ error_line n)
-Carries-refused {done} {wrote} {n} {p} read line new rest c e none short is =
-    ap outcome (ap (λ z. z ++ rest) e ∙ append_assoc done (line ++ 10 ∷ new) rest ∙ ap (λ z. done ++ z) (append_assoc line (10 ∷ new) rest)) ∙ c.on (line ++ 10 ∷ (new ++ rest))
-    ∙ ap (λ ls. after_text wrote (outcome_from n p ls)) (lines_of-line line (new ++ rest) none)
-    ∙ ap (after_text wrote) (outcome-line n p line (lines_of (new ++ rest)) None short is)
+pub Carries-refused : {config : Config} {done wrote : List ℕ} {n : ℕ} {p : Progress} (read line new rest : List ℕ) → Carries config done wrote n p → read ≡ done ++ (line ++ 10 ∷ new) → has_line_end line ≡ false → length line ≤ longest_line
+    → Plays config p line None → HasOutcome config (read ++ rest) (ends 4 (wrote ++ error_line n))
+Carries-refused {config} {done} {wrote} {n} {p} read line new rest c e none short plays =
+    moved config (sym (ap (λ z. z ++ rest) e ∙ append_assoc done (line ++ 10 ∷ new) rest ∙ ap (λ z. done ++ z) (append_assoc line (10 ∷ new) rest))) refl
+    (c.on (line ++ 10 ∷ (new ++ rest)) (ends 4 (error_line n))
+    (from_lines config n p _ _ _ (lines_of-line line (new ++ rest) none)
+    (outcome-line config n p line (lines_of (new ++ rest)) None (ends 4 (error_line n)) short plays refl)))
 
-pub Carries-last_refused : {done wrote : List ℕ} {n : ℕ} {p : Progress} (read line : List ℕ) → Carries done wrote n p → read ≡ done ++ line → has_line_end line ≡ false → length line ≤ longest_line
-    → 0 < length line → played p line ≡ None → outcome read ≡ ends 4 (wrote ++ error_line n)
-Carries-last_refused {wrote} {n} {p} read line c e none short some is =
-    ap outcome e ∙ c.on line ∙ ap (λ ls. after_text wrote (outcome_from n p ls)) (lines_of-last line none some)
-    ∙ ap (after_text wrote) (outcome-line n p line [] None short is)
+pub Carries-last_refused : {config : Config} {done wrote : List ℕ} {n : ℕ} {p : Progress} (read line : List ℕ) → Carries config done wrote n p → read ≡ done ++ line → has_line_end line ≡ false → length line ≤ longest_line
+    → 0 < length line → Plays config p line None → HasOutcome config read (ends 4 (wrote ++ error_line n))
+Carries-last_refused {config} {wrote} {n} {p} read line c e none short some plays =
+    moved config (sym e) refl (c.on line (ends 4 (error_line n))
+    (from_lines config n p _ _ _ (lines_of-last line none some)
+    (outcome-line config n p line [] None (ends 4 (error_line n)) short plays refl)))
 
 -- a line is too long, however the input goes on
-begun_long : (n : ℕ) (p : Progress) (line more : List ℕ) → has_line_end line ≡ false → longest_line < length line → outcome_from n p (lines_of (line ++ more)) ≡ ends 8 (long_line n)
-begun_long n p [] more none long = absurd (omega arith)
-begun_long n p (b ∷ line) more none long =
+begun_long : (config : Config) (n : ℕ) (p : Progress) (line more : List ℕ) → has_line_end line ≡ false → longest_line < length line → OutcomeFrom config n p (lines_of (line ++ more)) (ends 8 (long_line n))
+begun_long config n p [] more none long = absurd (omega arith)
+begun_long config n p (b ∷ line) more none long =
     let at = lines_of-begun b line more none in
     let longer : longest_line < length (b ∷ line ++ at.0) = omega (arith, length-append (b ∷ line) at.0, long) in
-    ap (outcome_from n p) at.2 ∙ outcome-long n p (b ∷ line ++ at.0) at.1 longer
+    from_lines config n p _ _ _ at.2 (outcome-long config n p (b ∷ line ++ at.0) at.1 longer)
 
-pub Carries-long : {done wrote : List ℕ} {n : ℕ} {p : Progress} (read line more rest : List ℕ) → Carries done wrote n p → read ≡ done ++ (line ++ more) → has_line_end line ≡ false → longest_line < length line
-    → outcome (read ++ rest) ≡ ends 8 (wrote ++ long_line n)
-Carries-long {done} {wrote} {n} {p} read line more rest c e none long =
-    ap outcome (ap (λ z. z ++ rest) e ∙ append_assoc done (line ++ more) rest ∙ ap (λ z. done ++ z) (append_assoc line more rest)) ∙ c.on (line ++ (more ++ rest))
-    ∙ ap (after_text wrote) (begun_long n p line (more ++ rest) none long)
-
--- what was written before a line is a part of the output of the lines read, whatever is read
-pub Carries-part : {done wrote : List ℕ} {n : ℕ} {p : Progress} (read more : List ℕ) → Carries done wrote n p → read ≡ done ++ more → IsPrefix wrote (outcome (whole_lines read)).text
-Carries-part {done} {wrote} {n} {p} read more c e = (
-  (outcome_from n p (lines_of (whole_lines more))).text,
-  ap (λ (z : List ℕ). (outcome z).text) (ap whole_lines e ∙ c.whole more) ∙ ap (λ (o : Outcome). o.text) (c.on (whole_lines more)),
-)
-
--- and so is a part of a line's own output
-pub Carries-line_part : {done wrote : List ℕ} {n : ℕ} {p : Progress} (read line new part left : List ℕ) (x : Played) → Carries done wrote n p → read ≡ done ++ (line ++ 10 ∷ new) → has_line_end line ≡ false
-    → length line ≤ longest_line → played p line ≡ Some x → x.text ≡ part ++ left → IsPrefix (wrote ++ part) (outcome (whole_lines read)).text
-Carries-line_part {done} {wrote} {n} {p} read line new part left x c e none short is cut =
-    let after = Carries-line line x c none short is in
-    let all = Carries-part read new after (e ∙ sym (append_assoc done (line ++ 10 ∷ []) new ∙ ap (λ z. done ++ z) (append_assoc line (10 ∷ []) new))) in
-    (left ++ all.0, all.1 ∙ ap (λ z. (wrote ++ z) ++ all.0) cut ∙ ap (λ z. z ++ all.0) (sym (append_assoc wrote part left)) ∙ append_assoc (wrote ++ part) left all.0)
-
-pub Carries-last_part : {done wrote : List ℕ} {n : ℕ} {p : Progress} (read line part left : List ℕ) (x : Played) → Carries done wrote n p → read ≡ done ++ line → has_line_end line ≡ false
-    → length line ≤ longest_line → 0 < length line → played p line ≡ Some x → x.text ≡ part ++ left → IsPrefix (wrote ++ part) (outcome read).text
-Carries-last_part {wrote} read line part left x c e none short some is cut =
-    (left, ap (λ (o : Outcome). o.text) (Carries-last read line x c e none short some is) ∙ ap (λ z. wrote ++ z) cut ∙ sym (append_assoc wrote part left))
+pub Carries-long : {config : Config} {done wrote : List ℕ} {n : ℕ} {p : Progress} (read line more rest : List ℕ) → Carries config done wrote n p → read ≡ done ++ (line ++ more) → has_line_end line ≡ false → longest_line < length line
+    → HasOutcome config (read ++ rest) (ends 8 (wrote ++ long_line n))
+Carries-long {config} {done} {wrote} {n} {p} read line more rest c e none long =
+    moved config (sym (ap (λ z. z ++ rest) e ∙ append_assoc done (line ++ more) rest ∙ ap (λ z. done ++ z) (append_assoc line more rest))) refl
+    (c.on (line ++ (more ++ rest)) (ends 8 (long_line n)) (begun_long config n p line (more ++ rest) none long))

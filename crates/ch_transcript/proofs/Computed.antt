@@ -4,28 +4,32 @@ use Rattle.std.specs.Str.{is_utf8, chars}
 use Rattle.std.specs.Char.{encode_utf8}
 use Rattle.std.specs.Fmt.{digits}
 use Rattle.ch_base.specs.Escape.{escaped_byte}
-use Rattle.ch_transcript.specs.Examples.{Lines, OnePublish, TwiceOn}
+use Rattle.ch_protocol.specs.ErrorTexts.{error_text}
+use Rattle.ch_protocol.specs.Events.{quoted}
+use Rattle.ch_transcript.specs.Examples.{Lines, OnePublish, Excepted}
 
 pub lines : Lines
 unfolding is_utf8 chars encode_utf8 digits
 lines = record {
   empty = refl;
-  two_connections = refl;
+  comment = refl;
   no_command = refl;
   leading_zero = refl;
-  back_in_time = refl;
-  other_target = refl;
   carriage_return = refl;
-  no_such_socket = refl;
-  no_such_event = refl;
-  no_string = refl;
-  no_public_name = refl;
+  target = refl;
+  empty_target = refl;
+  no_target = refl;
+  said = refl;
+  nothing_said = refl;
+  joined = refl;
+  no_channel = refl;
+  excepted = refl;
 }
 
 pub one_publish : OnePublish
-unfolding is_utf8 chars encode_utf8 digits escaped_byte
+unfolding digits escaped_byte quoted error_text
 one_publish = refl
 
-pub twice_on : TwiceOn
-unfolding is_utf8 chars encode_utf8 digits escaped_byte
-twice_on = refl
+pub excepted : Excepted
+unfolding digits escaped_byte quoted
+excepted = refl

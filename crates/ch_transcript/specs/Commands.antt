@@ -1,14 +1,13 @@
 -- What a line of a transcript says: a moment, a blank and a command.
-use Rattle.std.specs.Prelude.{ℕ, Bool, true, false, ◌&&◌, ◌||◌, ◌==◌, ◌-◌, ◌≡◌, ◌≤◌, List, [], ◌∷◌, bytes_eq, nat_eq, nat_le, length, take, drop, Option, Some, None, option_and_then, codes, if◌then◌else◌}
-use Rattle.std.specs.List.{before_first, after_first, starts_with, ends_with, list_all}
+use Rattle.std.specs.Prelude.{ℕ, Bool, ◌&&◌, ◌==◌, ◌≡◌, ◌≤◌, true, List, [], ◌∷◌, bytes_eq, length, nat_le, nat_lt, Option, Some, None, codes, if◌then◌else◌}
+use Rattle.std.specs.List.{before_first, after_first, position_or_len}
 use Rattle.std.specs.Str.{is_utf8}
 use Rattle.std.specs.Fmt.{decimal}
 use Rattle.std.specs.Str.Parse.{digits_value}
-use Rattle.ch_base.specs.JsonText.{is_unescaped}
-use Rattle.ch_history.specs.ChannelName.{Kind, Public, kind_of, is_good_name}
-use Rattle.ch_history.specs.OpenRows.{is_empty}
+use Rattle.ch_history.specs.ChannelName.{is_good_name}
+use Rattle.ch_history.specs.Limits.{is_event_name}
 use Rattle.ch_transcript.specs.declared.commands.Command.{Command}
-use Rattle.ch_transcript.specs.declared.commands.Command.TheVariants.{Open, Say, Publish}
+use Rattle.ch_transcript.specs.declared.commands.Command.TheVariants.{Open, Say, Join, SignIn, Lose, Tick, Publish, Tail}
 use Rattle.ch_transcript.specs.declared.commands.Line.{Line}
 use Rattle.ch_transcript.specs.declared.commands.Line.TheVariants.{Skipped, Timed, Bad}
 
@@ -18,16 +17,20 @@ use Rattle.ch_transcript.specs.declared.commands.Line.TheVariants.{Skipped, Time
 abbrev pub latest_moment : ℕ
 latest_moment = 1000000000000000
 
--- words are parted by one blank
+-- parts are parted by one blank; a part may be empty
 abbrev pub is_blank : ℕ → Bool
 is_blank b = b == 32
 
-abbrev pub first_word : List ℕ → List ℕ
-first_word text = before_first is_blank text
+-- whether there is a blank: the place of the first is one of the text
+abbrev pub has_blank : List ℕ → Bool
+has_blank text = nat_lt (position_or_len is_blank text) (length text)
 
--- what stands after the first word and its blank
-abbrev pub other_words : List ℕ → List ℕ
-other_words text = after_first is_blank text
+abbrev pub first_part : List ℕ → List ℕ
+first_part text = before_first is_blank text
+
+-- what stands after the first part and its blank; none where there is no blank
+abbrev pub more_parts : List ℕ → Option (List ℕ)
+more_parts text = if has_blank text then Some (after_first is_blank text) else None
 
 -- the number that is written so: in decimal, without a leading zero, and no greater than the latest moment
 abbrev pub number_in : List ℕ → Option ℕ
@@ -35,100 +38,97 @@ number_in text =
     if nat_le (digits_value 10 text) latest_moment && bytes_eq (decimal (digits_value 10 text)) text
     then Some (digits_value 10 text) else None
 
-abbrev pub is_public : Kind → Bool
-is_public Public = true
-is_public _ = false
+-- ---- commands, by what follows their word
 
--- a good name of a public channel
-abbrev pub is_public_name : List ℕ → Bool
-is_public_name name = is_good_name name && is_public (kind_of name)
+-- a target, with no blank in it
+abbrev pub open_in : List ℕ → Option (List ℕ) → Option Command
+open_in target None = Some (Open target)
+open_in target (Some more) = None
 
--- a letter, a digit, a dash or an underscore
-abbrev pub is_event_byte : ℕ → Bool
-is_event_byte b =
-    (nat_le 48 b && nat_le b 57) || (nat_le 65 b && nat_le b 90) || (nat_le 97 b && nat_le b 122)
-    || (b == 45) || (b == 95)
+-- a number and a text
+abbrev pub say_in : Option ℕ → Option (List ℕ) → Option Command
+say_in None text = None
+say_in (Some number) None = None
+say_in (Some number) (Some text) = Some (Say number text)
 
--- an event's name: 1 to 200 of these
-abbrev pub is_event : List ℕ → Bool
-is_event name = nat_le 1 (length name) && nat_le (length name) 200 && list_all is_event_byte name
+-- a channel, and data or none
+abbrev pub join_of : ℕ → List ℕ → Option Command
+join_of number more = if is_good_name (first_part more) then Some (Join number (first_part more) (more_parts more)) else None
 
--- unescaped bytes, and then the quote that ends the text
-abbrev pub is_string_rest : List ℕ → Bool
-is_string_rest [] = false
-is_string_rest (b ∷ rest) = if b == 34 then is_empty rest else is_unescaped b && is_string_rest rest
+-- a number, a channel, and data or none
+abbrev pub join_in : Option ℕ → Option (List ℕ) → Option Command
+join_in None more = None
+join_in (Some number) None = None
+join_in (Some number) (Some more) = join_of number more
 
--- a JSON string without escapes, from quote to quote
-abbrev pub is_plain_string : List ℕ → Bool
-is_plain_string [] = false
-is_plain_string (b ∷ rest) = (b == 34) && is_string_rest rest
+-- a number and a user's data
+abbrev pub sign_in_in : Option ℕ → Option (List ℕ) → Option Command
+sign_in_in None user_data = None
+sign_in_in (Some number) None = None
+sign_in_in (Some number) (Some user_data) = Some (SignIn number user_data)
 
--- ---- messages
+-- a number
+abbrev pub lose_in : Option ℕ → Option Command
+lose_in None = None
+lose_in (Some number) = Some (Lose number)
 
--- the text without this front, if it has it
-abbrev pub without_front : List ℕ → List ℕ → Option (List ℕ)
-without_front front text = if starts_with nat_eq text front then Some (drop (length front) text) else None
+abbrev pub tick_in : Option ℕ → Option Command
+tick_in None = None
+tick_in (Some number) = Some (Tick number)
 
--- the text without this end, if it has it
-abbrev pub without_end : List ℕ → List ℕ → Option (List ℕ)
-without_end last text = if ends_with nat_eq text last then Some (take (length text - length last) text) else None
+abbrev pub tail_in : Option ℕ → Option Command
+tail_in None = None
+tail_in (Some shard) = Some (Tail shard)
 
--- what stands between this front and this end of the text
-abbrev pub between : List ℕ → List ℕ → List ℕ → Option (List ℕ)
-between front last text = option_and_then (without_end last) (without_front front text)
+-- a body, of an event of this name on this channel
+abbrev pub publish_of : Option ℕ → List ℕ → List ℕ → Option (List ℕ) → Option Command
+publish_of except channel event None = None
+publish_of except channel event (Some body) =
+    if is_good_name channel && is_event_name event then Some (Publish channel event body except) else None
 
-abbrev pub or_else : Option (List ℕ) → Option (List ℕ) → Option (List ℕ)
-or_else None other = other
-or_else (Some x) other = Some x
+-- an event and a body
+abbrev pub publish_on : Option ℕ → List ℕ → Option (List ℕ) → Option Command
+publish_on except channel None = None
+publish_on except channel (Some more) = publish_of except channel (first_part more) (more_parts more)
 
--- the two texts of a subscribe that are taken so far: what stands before the channel's name
-abbrev pub subscribe_front : List ℕ
-subscribe_front = codes "{\"event\":\"pusher:subscribe\",\"data\":{\"channel\":\""
+-- a channel, an event and a body
+abbrev pub publish_in : Option ℕ → List ℕ → Option Command
+publish_in except rest = publish_on except (first_part rest) (more_parts rest)
 
-abbrev pub subscribe_front_with_auth : List ℕ
-subscribe_front_with_auth = codes "{\"event\":\"pusher:subscribe\",\"data\":{\"auth\":\"\",\"channel\":\""
+-- a number, a channel, an event and a body
+abbrev pub except_in : Option ℕ → Option (List ℕ) → Option Command
+except_in None rest = None
+except_in (Some number) None = None
+except_in (Some number) (Some rest) = publish_in (Some number) rest
 
--- and what stands after it
-abbrev pub subscribe_end : List ℕ
-subscribe_end = codes "\"}}"
+-- the command of this word
+abbrev pub command_by : List ℕ → List ℕ → Option Command
+command_by word rest =
+    if bytes_eq word (codes "open") then open_in rest (more_parts rest)
+    else if bytes_eq word (codes "say") then say_in (number_in (first_part rest)) (more_parts rest)
+    else if bytes_eq word (codes "join") then join_in (number_in (first_part rest)) (more_parts rest)
+    else if bytes_eq word (codes "signin") then sign_in_in (number_in (first_part rest)) (more_parts rest)
+    else if bytes_eq word (codes "lose") then lose_in (number_in rest)
+    else if bytes_eq word (codes "tick") then tick_in (number_in rest)
+    else if bytes_eq word (codes "publish") then publish_in None rest
+    else if bytes_eq word (codes "except") then except_in (number_in (first_part rest)) (more_parts rest)
+    else if bytes_eq word (codes "tail") then tail_in (number_in rest)
+    else None
 
--- what one of them names
-abbrev pub channel_in : List ℕ → Option (List ℕ)
-channel_in text = or_else (between subscribe_front subscribe_end text) (between subscribe_front_with_auth subscribe_end text)
-
--- ---- commands
-
--- the one target that connections are opened with so far
-abbrev pub open_text : List ℕ
-open_text = codes "open /app/k?protocol=7"
-
--- `say` by its number and its channel
-abbrev pub say_of : Option ℕ → Option (List ℕ) → Option Command
-say_of None channel = None
-say_of (Some number) None = None
-say_of (Some number) (Some channel) = if is_public_name channel then Some (Say number channel) else None
-
--- what follows the word `say`: a socket's number and a subscribe
-abbrev pub said : List ℕ → Option Command
-said rest = say_of (number_in (first_word rest)) (channel_in (other_words rest))
-
-abbrev pub publish_of : List ℕ → List ℕ → List ℕ → Option Command
-publish_of channel event body =
-    if is_public_name channel && is_event event && is_plain_string body then Some (Publish channel event body) else None
-
--- what follows the word `publish`: a channel, an event and a string
-abbrev pub published : List ℕ → Option Command
-published rest = publish_of (first_word rest) (first_word (other_words rest)) (other_words (other_words rest))
+-- a word and what follows it; no command is a word alone
+abbrev pub command_in : List ℕ → Option (List ℕ) → Option Command
+command_in word None = None
+command_in word (Some rest) = command_by word rest
 
 -- the command that a text says, if it says one
 abbrev pub command_of : List ℕ → Option Command
-command_of text =
-    if bytes_eq text open_text then Some Open
-    else if bytes_eq (first_word text) (codes "say") then said (other_words text)
-    else if bytes_eq (first_word text) (codes "publish") then published (other_words text)
-    else None
+command_of text = command_in (first_part text) (more_parts text)
 
 -- ---- lines
+
+abbrev pub command_after : Option (List ℕ) → Option Command
+command_after None = None
+command_after (Some text) = command_of text
 
 abbrev pub timed : Option ℕ → Option Command → Line
 timed None command = Bad
@@ -142,7 +142,7 @@ is_skipped (b ∷ bytes) = b == 35
 
 -- what a text says
 abbrev pub line_in : List ℕ → Line
-line_in text = if is_skipped text then Skipped else timed (number_in (first_word text)) (command_of (other_words text))
+line_in text = if is_skipped text then Skipped else timed (number_in (first_part text)) (command_after (more_parts text))
 
 -- what a line says; one that isn't UTF-8 says nothing, even where it begins as a comment
 abbrev pub line_of : List ℕ → Line
@@ -150,11 +150,11 @@ line_of line = if is_utf8 line then line_in line else Bad
 
 -- ---- what lines carry
 
--- the names, the event and the body are of the forms that the words have to have
+-- the names of channels and of events are good
 abbrev pub IsCommand : Command → Type 0
-IsCommand Open = Unit {0}
-IsCommand (Say number channel) = is_public_name channel ≡ true
-IsCommand (Publish channel event body) = (is_public_name channel ≡ true) × (is_event event ≡ true) × (is_plain_string body ≡ true)
+IsCommand (Join number channel channel_data) = is_good_name channel ≡ true
+IsCommand (Publish channel event body except) = (is_good_name channel ≡ true) × (is_event_name event ≡ true)
+IsCommand _ = Unit {0}
 
 abbrev pub IsLine : Line → Type 0
 IsLine Skipped = Unit {0}

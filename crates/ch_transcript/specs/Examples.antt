@@ -1,53 +1,70 @@
--- Transcripts with what they write, as a check of the definitions' text.
-use Rattle.std.specs.Prelude.{◌≡◌, ℕ, List, [], ◌++◌, codes}
+-- Lines with what they say and write, as a check of the definitions' text.
+use Rattle.std.specs.Prelude.{◌≡◌, ℕ, true, List, [], ◌∷◌, ◌++◌, codes, Option, Some, None, Ok}
+use Rattle.ch_config.specs.Config.{built_in}
+use Rattle.ch_rate.specs.Quiet.{quiet_from}
+use Rattle.ch_protocol.specs.declared.client_message.ClientMessage.TheVariants.{Subscribe}
+use Rattle.ch_transcript.specs.Commands.{line_of}
 use Rattle.ch_transcript.specs.Printing.{line_end}
-use Rattle.ch_transcript.specs.Transcript.{outcome, ends}
-
--- a line that opens a connection, with its line end
-abbrev pub open_line : List ℕ
-open_line = codes "0 open /app/k?protocol=7" ++ line_end
-
--- what the first and the second such line write
-abbrev pub first : List ℕ
-first = codes "1 {\"event\":\"pusher:connection_established\",\"data\":\"{\\\"socket_id\\\":\\\"1.1\\\",\\\"activity_timeout\\\":120}\"}" ++ line_end
-
-abbrev pub second : List ℕ
-second = codes "2 {\"event\":\"pusher:connection_established\",\"data\":\"{\\\"socket_id\\\":\\\"1.2\\\",\\\"activity_timeout\\\":120}\"}" ++ line_end
-
-abbrev pub subscribe_line : List ℕ
-subscribe_line = codes "1 say 1 {\"event\":\"pusher:subscribe\",\"data\":{\"auth\":\"\",\"channel\":\"a\"}}" ++ line_end
+use Rattle.ch_transcript.specs.Transcript.{Progress, Played, Sense, Socket, played_as}
+use Rattle.ch_transcript.specs.declared.commands.Command.TheVariants.{Open, Say, Join, Publish, Lose}
+use Rattle.ch_transcript.specs.declared.commands.Line.{Line}
+use Rattle.ch_transcript.specs.declared.commands.Line.TheVariants.{Skipped, Timed, Bad}
 
 pub record Lines : Type 0 where
-  pub empty : outcome [] ≡ ends 0 []
-  pub two_connections : outcome (open_line ++ line_end ++ codes "# x" ++ line_end ++ codes "0 open /app/k?protocol=7") ≡ ends 0 (first ++ second)
-  pub no_command : outcome (open_line ++ codes "xyz") ≡ ends 4 (first ++ codes "error line 2" ++ line_end)
-  pub leading_zero : outcome (codes "00 open /app/k?protocol=7") ≡ ends 4 (codes "error line 1" ++ line_end)
-  pub back_in_time : outcome (codes "5 open /app/k?protocol=7" ++ line_end ++ open_line) ≡ ends 4 (first ++ codes "error line 2" ++ line_end)
-  pub other_target : outcome (codes "0 open /app/k?protocol=6") ≡ ends 4 (codes "error line 1" ++ line_end)
-  pub carriage_return : outcome (codes "0 open /app/k?protocol=7\r" ++ line_end) ≡ ends 4 (codes "error line 1" ++ line_end)
-  pub no_such_socket : outcome subscribe_line ≡ ends 4 (codes "error line 1" ++ line_end)
-  pub no_such_event : outcome (codes "0 publish a e! \"hi\"") ≡ ends 4 (codes "error line 1" ++ line_end)
-  pub no_string : outcome (codes "0 publish a e hi") ≡ ends 4 (codes "error line 1" ++ line_end)
-  pub no_public_name : outcome (codes "0 publish private-a e \"hi\"") ≡ ends 4 (codes "error line 1" ++ line_end)
+  pub empty : line_of [] ≡ Skipped
+  pub comment : line_of (codes "# 1 x") ≡ Skipped
+  pub no_command : line_of (codes "xyz") ≡ Bad
+  pub leading_zero : line_of (codes "00 lose 1") ≡ Bad
+  pub carriage_return : line_of (codes "0 lose 1\r") ≡ Bad
+  pub target : line_of (codes "5 open /app/k") ≡ Timed 5 (Open (codes "/app/k"))
+  pub empty_target : line_of (codes "5 open ") ≡ Timed 5 (Open [])
+  pub no_target : line_of (codes "5 open") ≡ Bad
+  pub said : line_of (codes "1 say 2  a ") ≡ Timed 1 (Say 2 (codes " a "))
+  pub nothing_said : line_of (codes "1 say 2") ≡ Bad
+  pub joined : line_of (codes "1 join 2 a {} ") ≡ Timed 1 (Join 2 (codes "a") (Some (codes "{} ")))
+  pub no_channel : line_of (codes "1 join 2 a!") ≡ Bad
+  pub excepted : line_of (codes "1 except 3 a e \"x y\"") ≡ Timed 1 (Publish (codes "a") (codes "e") (codes "\"x y\"") (Some 3))
 
--- two sockets subscribe to a public channel, and each gets one published event
+-- ---- two open sockets
+
+abbrev pub open_socket : Socket
+open_socket = record { is_open = true; quiet = quiet_from 0; asks = [] }
+
+abbrev pub two_open : Progress
+two_open = record { at = 1; sockets = open_socket ∷ open_socket ∷ []; shards = record { chans = λ k. []; users = λ k. [] } }
+
+-- a subscribe to the channel `a`, and a body that is a JSON string
+abbrev pub subscribes : Sense
+subscribes = record {
+  reading = record { verdict = Ok (Subscribe (codes "a") None None); member = None; user = None };
+  is_string = true;
+}
+
+-- what lines write that mean so, one after another; a line that may not stand ends them
+abbrev pub written_then : (Progress → List ℕ) → Option Played → List ℕ
+written_then more None = codes "refused"
+written_then more (Some x) = x.text ++ more x.next
+
+abbrev pub written : Progress → List Line → List ℕ
+written p [] = []
+written p (line ∷ lines) = written_then (λ q. written q lines) (played_as built_in p line subscribes)
+
+-- both subscribe, and each gets one published event; a second subscribe is refused, and nothing goes back in time
 abbrev pub OnePublish : Type 0
 OnePublish =
-    outcome (open_line ++ open_line ++ subscribe_line
-    ++ codes "1 say 2 {\"event\":\"pusher:subscribe\",\"data\":{\"channel\":\"a\"}}" ++ line_end
-    ++ codes "2 publish a e \"hi\"" ++ line_end)
-    ≡ ends 0 (first ++ second
-    ++ codes "1 {\"event\":\"pusher_internal:subscription_succeeded\",\"channel\":\"a\",\"data\":\"{}\"}" ++ line_end
+    written two_open (Timed 1 (Say 1 []) ∷ Timed 1 (Say 2 []) ∷ Timed 2 (Publish (codes "a") (codes "e") (codes "\"hi\"") None)
+    ∷ Timed 2 (Say 1 []) ∷ Timed 1 (Lose 1) ∷ [])
+    ≡ codes "1 {\"event\":\"pusher_internal:subscription_succeeded\",\"channel\":\"a\",\"data\":\"{}\"}" ++ line_end
     ++ codes "2 {\"event\":\"pusher_internal:subscription_succeeded\",\"channel\":\"a\",\"data\":\"{}\"}" ++ line_end
     ++ codes "sent 2 0" ++ line_end
     ++ codes "1 {\"event\":\"e\",\"channel\":\"a\",\"data\":\"hi\"}" ++ line_end
-    ++ codes "2 {\"event\":\"e\",\"channel\":\"a\",\"data\":\"hi\"}" ++ line_end)
-
--- a second subscribe is refused, and an event on another channel reaches nobody
-abbrev pub TwiceOn : Type 0
-TwiceOn =
-    outcome (open_line ++ subscribe_line ++ subscribe_line ++ codes "1 publish b e \"hi\"")
-    ≡ ends 0 (first
-    ++ codes "1 {\"event\":\"pusher_internal:subscription_succeeded\",\"channel\":\"a\",\"data\":\"{}\"}" ++ line_end
+    ++ codes "2 {\"event\":\"e\",\"channel\":\"a\",\"data\":\"hi\"}" ++ line_end
     ++ codes "1 {\"event\":\"pusher:error\",\"data\":{\"message\":\"already subscribed\",\"code\":4313}}" ++ line_end
-    ++ codes "sent 0 0" ++ line_end)
+    ++ codes "refused"
+
+-- the excepted socket gets nothing
+abbrev pub Excepted : Type 0
+Excepted =
+    written two_open (Timed 1 (Say 1 []) ∷ Timed 1 (Publish (codes "a") (codes "e") (codes "\"x\"") (Some 1)) ∷ [])
+    ≡ codes "1 {\"event\":\"pusher_internal:subscription_succeeded\",\"channel\":\"a\",\"data\":\"{}\"}" ++ line_end
+    ++ codes "sent 1 0" ++ line_end

@@ -1,63 +1,66 @@
--- What a replay prints. The start second, the first part of each socket id, is 1.
-use Rattle.std.specs.Prelude.{ℕ, List, [], ◌∷◌, ◌++◌, codes}
+-- The lines that a replay prints. The start second, the first part of each socket id, is 1.
+use Rattle.std.specs.Prelude.{ℕ, ◌-◌, List, [], ◌∷◌, ◌++◌, codes, drop, length, map}
 use Rattle.std.specs.Fmt.{decimal}
-use Rattle.ch_base.specs.Escape.{escaped}
 use Rattle.ch_base.specs.declared.channel.ChanAnswer.{ChanAnswer}
-use Rattle.ch_base.specs.declared.channel.ChanAnswer.TheVariants.{Already, Sent}
+use Rattle.ch_base.specs.declared.channel.ChanAnswer.TheVariants.{Sent}
+use Rattle.ch_base.specs.declared.channel.ChanCall.{ChanCall}
+use Rattle.ch_base.specs.declared.channel.ChanCall.TheVariants.{Join, Leave, Lost, Publish, Say, Take, TakeHooks, Names, Look, Users}
 use Rattle.ch_base.specs.declared.frame.Frame.{Frame}
-use Rattle.ch_base.specs.declared.frame.Frame.TheVariants.{Opened, Succeeded, Event}
-use Rattle.ch_base.specs.declared.frame.FrameFor.{FrameFor}
+use Rattle.ch_base.specs.declared.frame.Frame.TheVariants.{Error}
+use Rattle.ch_history.specs.Entries.{ChanHistory}
+use Rattle.ch_protocol.specs.Printed.{printed}
 
--- ---- frames (Pusher Channels protocol, "Connection events", "Subscription events" and "Channel events")
-
--- the first frame of a connection
-abbrev pub opened_text : ℕ → List ℕ
-opened_text number =
-    codes "{\"event\":\"pusher:connection_established\",\"data\":\"{\\\"socket_id\\\":\\\"1."
-    ++ decimal number ++ codes "\\\",\\\"activity_timeout\\\":120}\"}"
-
--- a refusal, with its text and its code
-abbrev pub error_text : List ℕ → ℕ → List ℕ
-error_text message code =
-    codes "{\"event\":\"pusher:error\",\"data\":{\"message\":\"" ++ message ++ codes "\",\"code\":" ++ decimal code ++ codes "}}"
-
-abbrev pub succeeded_text : List ℕ → List ℕ
-succeeded_text channel =
-    codes "{\"event\":\"pusher_internal:subscription_succeeded\",\"channel\":\"" ++ escaped channel ++ codes "\",\"data\":\"{}\"}"
-
--- an event on a channel; its body is a JSON text and stands as it is spelled
-abbrev pub event_text : List ℕ → List ℕ → List ℕ → List ℕ
-event_text channel event body =
-    codes "{\"event\":\"" ++ escaped event ++ codes "\",\"channel\":\"" ++ escaped channel ++ codes "\",\"data\":" ++ body ++ codes "}"
-
--- the text of a frame that public channels make
-abbrev pub frame_text : Frame → List ℕ
-frame_text (Opened number) = opened_text number
-frame_text (Succeeded channel) = succeeded_text channel
-frame_text (Event channel event body user_id) = event_text channel event body
-frame_text _ = []
-
--- ---- lines of output
+abbrev pub start_second : ℕ
+start_second = 1
 
 abbrev pub line_end : List ℕ
 line_end = 10 ∷ []
 
--- a socket's line: its number, a blank and a frame's text
+-- ---- sockets
+
+-- a socket's line: its number, a blank and a text
 abbrev pub socket_line : ℕ → List ℕ → List ℕ
-socket_line socket text = decimal socket ++ 32 ∷ [] ++ text ++ line_end
+socket_line number text = decimal number ++ 32 ∷ [] ++ text ++ line_end
 
-abbrev pub frame_line : FrameFor → List ℕ
-frame_line x = socket_line x.socket (frame_text x.frame)
+-- a frame that a socket is sent
+abbrev pub frame_line : ℕ → Frame → List ℕ
+frame_line number frame = socket_line number (printed frame start_second)
 
--- what a socket is told at once of the answer to its Join
-abbrev pub joined_text : ℕ → ChanAnswer → List ℕ
-joined_text socket Already = socket_line socket (error_text (codes "already subscribed") 4313)
-joined_text socket _ = []
+-- the end of a connection, by its code
+abbrev pub close_line : ℕ → ℕ → List ℕ
+close_line number code = socket_line number (codes "close " ++ decimal code)
+
+-- an error, and the end of the connection
+abbrev pub end_lines : ℕ → ℕ → List ℕ
+end_lines number code = frame_line number (Error code) ++ close_line number code
+
+-- ---- other lines
 
 -- the counts that answer a Publish
-abbrev pub sent_text : ChanAnswer → List ℕ
-sent_text (Sent subs users) = codes "sent " ++ decimal subs ++ 32 ∷ decimal users ++ line_end
-sent_text _ = []
+abbrev pub sent_line : ChanAnswer → List ℕ
+sent_line (Sent subs users) = codes "sent " ++ decimal subs ++ 32 ∷ decimal users ++ line_end
+sent_line _ = []
+
+-- the letter of a call
+abbrev pub letter_of : ChanCall → ℕ
+letter_of (Join socket channel member at) = 74
+letter_of (Leave socket channel at) = 76
+letter_of (Lost socket at) = 88
+letter_of (Publish channel event body except at) = 80
+letter_of (Say socket channel event body at) = 83
+letter_of Take = 84
+letter_of (TakeHooks at) = 72
+letter_of (Names prefix) = 78
+letter_of (Look channel at) = 75
+letter_of (Users channel) = 85
+
+-- the most letters that are shown
+abbrev pub longest_tail : ℕ
+longest_tail = 1024
+
+-- the letters of the last calls of a shard, the oldest first
+abbrev pub tail_line : ChanHistory → List ℕ
+tail_line h = codes "tail " ++ map (λ e. letter_of e.call) (drop (length h - longest_tail) h) ++ line_end
 
 -- the line for words that are no call of `replay`
 abbrev pub usage_line : List ℕ

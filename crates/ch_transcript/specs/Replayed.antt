@@ -1,11 +1,12 @@
 -- What a replay has read and written, by how it ended.
-use Rattle.std.specs.Prelude.{◌≡◌, ℕ, Bool, true, false, List, [], ◌∷◌, ◌++◌, ◌⊎◌, take, bytes_eq, codes, Option, if◌then◌else◌}
+use Rattle.std.specs.Prelude.{◌≡◌, ℕ, Bool, false, List, [], ◌∷◌, ◌++◌, ◌⊎◌, take, bytes_eq, codes, Option}
 use Rattle.std.specs.Io.KnownBytes.{Consumes, Appends, IsAtEnd}
 use Rattle.ch_transcript.specs.declared.ending.Ending.{Ending}
 use Rattle.ch_transcript.specs.declared.ending.Ending.TheVariants.{Done, NotALine, LongLine, ReadFailed, WriteFailed, Memory}
 use Rattle.ch_transcript.specs.Lines.{whole_lines}
 use Rattle.ch_transcript.specs.Printing.{error_line, long_line}
-use Rattle.ch_transcript.specs.Transcript.{outcome, ends}
+use Rattle.ch_config.specs.declared.config.Config.{Config}
+use Rattle.ch_transcript.specs.Transcript.{HasOutcome, ends}
 
 -- the words ask for a replay: they are `replay` alone
 abbrev pub is_replay : List (List ℕ) → Bool
@@ -16,15 +17,15 @@ is_replay (word ∷ other ∷ words) = false
 abbrev pub IsPrefix : List ℕ → List ℕ → Type 0
 IsPrefix xs ys = (more : List ℕ) × (ys ≡ xs ++ more)
 
--- the lines whose line end was read, or all where the source is at its end
-abbrev pub lines_read : Bool → List ℕ → List ℕ
-lines_read is_end read = if is_end then read else whole_lines read
-
--- what was written is a front of the output of the lines read
-pub record IsPart (at_end : Type 0) (read wrote : List ℕ) : Type 0 where
-  pub is_end : Bool
-  pub ended : is_end ≡ true → at_end
-  pub prefix : IsPrefix wrote (outcome (lines_read is_end read)).text
+-- What was written is a front of the output of the first lines that were read: of whole lines, or of all lines where the
+-- source is at its end.
+pub record IsPart (config : Config) (at_end : Type 0) (read wrote : List ℕ) : Type 0 where
+  pub lines : List ℕ
+  pub front : IsPrefix lines read
+  pub whole : (whole_lines lines ≡ lines) ⊎ (at_end × (lines ≡ read))
+  pub text : List ℕ
+  pub outcome : HasOutcome config lines (ends 0 text)
+  pub prefix : IsPrefix wrote text
 
 -- a line of output was written, or a front of it where a write failed
 pub record WritesLast (line : List ℕ) (told_old told_new : Option (List ℕ)) (write_failed : Type 0) : Type 0 where
@@ -34,30 +35,30 @@ pub record WritesLast (line : List ℕ) (told_old told_new : Option (List ℕ)) 
 
 -- A line is refused, and named last. The outcome is that of what was read however the source goes on, where it isn't at
 -- its end: so the refused line was read to its line end, or to the end of the source, or past the longest line.
-pub record Refuses (status : ℕ) (name : ℕ → List ℕ) (at_end write_failed : Type 0) (read wrote : List ℕ) : Type 0 where
+pub record Refuses (config : Config) (status : ℕ) (name : ℕ → List ℕ) (at_end write_failed : Type 0) (read wrote : List ℕ) : Type 0 where
   pub number : ℕ
   pub front : List ℕ
-  pub judged : outcome read ≡ ends status (front ++ name number)
-  pub settled : at_end ⊎ ((rest : List ℕ) → outcome (read ++ rest) ≡ ends status (front ++ name number))
+  pub judged : HasOutcome config read (ends status (front ++ name number))
+  pub settled : at_end ⊎ ((rest : List ℕ) → HasOutcome config (read ++ rest) (ends status (front ++ name number)))
   pub part : (k : ℕ) × (wrote ≡ front ++ take k (name number))
   pub whole : (wrote ≡ front ++ name number) ⊎ write_failed
 
 -- what was read and written, by the ending
-abbrev pub Says : Ending → Type 0 → Type 0 → List ℕ → List ℕ → Type 0
-Says Done at_end write_failed read wrote = at_end × (outcome read ≡ ends 0 wrote)
-Says NotALine at_end write_failed read wrote = Refuses 4 error_line at_end write_failed read wrote
-Says LongLine at_end write_failed read wrote = Refuses 8 long_line at_end write_failed read wrote
-Says ReadFailed at_end write_failed read wrote = outcome (whole_lines read) ≡ ends 0 wrote
-Says WriteFailed at_end write_failed read wrote = IsPart at_end read wrote
-Says Memory at_end write_failed read wrote = IsPart at_end read wrote
+abbrev pub Says : Config → Ending → Type 0 → Type 0 → List ℕ → List ℕ → Type 0
+Says config Done at_end write_failed read wrote = at_end × HasOutcome config read (ends 0 wrote)
+Says config NotALine at_end write_failed read wrote = Refuses config 4 error_line at_end write_failed read wrote
+Says config LongLine at_end write_failed read wrote = Refuses config 8 long_line at_end write_failed read wrote
+Says config ReadFailed at_end write_failed read wrote = HasOutcome config (whole_lines read) (ends 0 wrote)
+Says config WriteFailed at_end write_failed read wrote = IsPart config at_end read wrote
+Says config Memory at_end write_failed read wrote = IsPart config at_end read wrote
 
 -- the bytes that a replay read from its source and wrote to its sink, where these tell them
-pub record Ran (left_old left_new told_old told_new : Option (List ℕ)) (write_failed : Type 0) (ending : Ending) : Type 0 where
+pub record Ran (config : Config) (left_old left_new told_old told_new : Option (List ℕ)) (write_failed : Type 0) (ending : Ending) : Type 0 where
   pub read : List ℕ
   pub wrote : List ℕ
   pub consumed : Consumes left_old left_new read
   pub gained : Appends told_old told_new wrote
-  pub says : Says ending (IsAtEnd left_new) write_failed read wrote
+  pub says : Says config ending (IsAtEnd left_new) write_failed read wrote
 
 -- the status that an ending is told by
 abbrev pub status_of : Ending → ℕ

@@ -1,20 +1,47 @@
 use ch_base::Text;
 
-/// What a line of a transcript asks for.
+/// What a line of a transcript asks for. Sockets are known by their numbers: the nth line that opens a
+/// connection is that of socket n.
 #[derive(Debug, Drop)]
 pub enum Command {
-    /// A connection is opened, with the next number.
-    Open,
-    /// The socket with this number says that it subscribes to a public channel.
+    /// A connection is opened with this target, with the next number.
+    Open {
+        target: Text,
+    },
+    /// The socket says this text.
     Say {
         number: u64,
-        channel: Text,
+        text: Text,
     },
-    /// A back end publishes an event on a public channel; `body` is a JSON string without escapes.
+    /// The socket says that it subscribes to this channel, rightly authorized, with these data.
+    Join {
+        number: u64,
+        channel: Text,
+        channel_data: Option<Text>,
+    },
+    /// The socket says that it signs in the user of these data, rightly authorized.
+    SignIn {
+        number: u64,
+        user_data: Text,
+    },
+    /// The socket is lost.
+    Lose {
+        number: u64,
+    },
+    /// The socket's silence is looked at.
+    Tick {
+        number: u64,
+    },
+    /// A back end publishes an event on a channel; all its sockets but the excepted one get it.
     Publish {
         channel: Text,
         event: Text,
         body: Text,
+        except: Option<u64>,
+    },
+    /// The last calls on the channel shard with this number are shown.
+    Tail {
+        shard: u64,
     },
 }
 

@@ -1,8 +1,8 @@
-ghost use Rattle.ch_transcript.specs.Examples.{Lines, OnePublish, TwiceOn};
+ghost use Rattle.ch_transcript.specs.Examples.{Excepted, Lines, OnePublish};
 
-/// Transcripts write what the definitions compute.
+/// Lines say and write what the definitions compute.
 pub fn examples_hold()
     ensures lines { Lines }
     ensures one_publish { OnePublish }
-    ensures twice_on { TwiceOn }
+    ensures excepted { Excepted }
 {}

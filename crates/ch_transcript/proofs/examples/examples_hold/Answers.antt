@@ -7,5 +7,5 @@ returns-clause-lines c = shown.lines
 pub returns-clause-one_publish : goal.returns-clause-one_publish
 returns-clause-one_publish c = shown.one_publish
 
-pub returns-clause-twice_on : goal.returns-clause-twice_on
-returns-clause-twice_on c = shown.twice_on
+pub returns-clause-excepted : goal.returns-clause-excepted
+returns-clause-excepted c = shown.excepted
