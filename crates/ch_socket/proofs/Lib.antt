@@ -1,0 +1,4 @@
+pub mod AskSteps
+pub mod HearSteps
+pub mod LossSteps
+pub mod TurnSteps
