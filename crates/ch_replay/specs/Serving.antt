@@ -6,29 +6,29 @@ use Rattle.ch_transcript.specs.Replayed.{WritesLast}
 use Rattle.ch_transcript.specs.Transcript.{Played}
 use Rattle.ch_transcript.specs.declared.ending.Ending.{Ending}
 use Rattle.ch_transcript.specs.declared.ending.Ending.TheVariants.{NotALine, LongLine, WriteFailed, Memory}
-use Rattle.ch_replay.specs.declared.player.Player.{Player}
-use Rattle.ch_replay.specs.Playing.{IsAt}
+use Rattle.ch_player.specs.declared.player.Player.{Player}
+use Rattle.ch_player.specs.Playing.{IsAt}
 
--- the line's output was written
-pub record Serves (player : Player) (told_old told_new : Option (List ℕ)) (o : Option Played) : Type 0 where
+-- the line is one of these: its output was written
+pub record Serves (player : Player) (told_old told_new : Option (List ℕ)) (Is : Option Played → Type 0) : Type 0 where
   pub played : Played
-  pub is : o ≡ Some played
+  pub is : Is (Some played)
   pub gained : Appends told_old told_new played.text
   pub next : IsAt player played.next
 
--- a front of the line's output was written
-pub record Breaks (told_old told_new : Option (List ℕ)) (o : Option Played) : Type 0 where
+-- the line is one of these: a front of its output was written
+pub record Breaks (told_old told_new : Option (List ℕ)) (Is : Option Played → Type 0) : Type 0 where
   pub played : Played
-  pub is : o ≡ Some played
+  pub is : Is (Some played)
   pub count : ℕ
   pub gained : Appends told_old told_new (take count played.text)
 
 -- the line was not served
-abbrev pub Stops : Ending → Option (List ℕ) → Option (List ℕ) → Option Played → Type 0
-Stops NotALine told_old told_new o = (o ≡ None) × Appends told_old told_new []
-Stops WriteFailed told_old told_new o = Breaks told_old told_new o
-Stops Memory told_old told_new o = Appends told_old told_new []
-Stops _ told_old told_new o = ⊥
+abbrev pub Stops : Ending → Option (List ℕ) → Option (List ℕ) → (Option Played → Type 0) → Type 0
+Stops NotALine told_old told_new Is = Is None × Appends told_old told_new []
+Stops WriteFailed told_old told_new Is = Breaks told_old told_new Is
+Stops Memory told_old told_new Is = Appends told_old told_new []
+Stops _ told_old told_new Is = ⊥
 
 -- the line is named last, unless there is no memory for that
 abbrev pub NamesBy : List ℕ → Ending → Ending → Option (List ℕ) → Option (List ℕ) → Type 0 → Type 0

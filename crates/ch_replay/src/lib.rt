@@ -5,10 +5,7 @@
 //! definition of a transcript's output in `ch_transcript`.
 #![tactic(auto)]
 
-mod forms;
 mod line_reader;
-mod parsing;
-mod player;
 mod printing;
 mod replaying;
 
@@ -16,3 +13,5 @@ pub use replaying::replay;
 
 #[cfg(test)]
 mod tests;
+#[cfg(test)]
+mod transcript_tests;

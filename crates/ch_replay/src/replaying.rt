@@ -1,16 +1,18 @@
-ghost use Rattle.std.specs.Prelude.{◌≡◌, ◌≤◌, ◌^◌, ◌↔◌, true, false, MatchResult, ◌⊎◌};
+ghost use Rattle.std.specs.Prelude.{◌≡◌, ◌≤◌, ◌^◌, ◌↔◌, true, false, MatchResult, IfOk, OnOk, ◌⊎◌};
 ghost use Rattle.ch_io.specs.Counts.{Rose};
 ghost use Rattle.ch_transcript.specs.Printing.{usage_line};
 ghost use Rattle.ch_transcript.specs.Replayed.{Ran, WritesLast, is_replay, status_of};
-ghost use Rattle.ch_transcript.specs.Transcript.{Progress, played};
-ghost use Rattle.ch_replay.specs.Playing.{IsAt};
+ghost use Rattle.ch_transcript.specs.Transcript.{Progress, beginning, Plays};
+ghost use Rattle.ch_config.specs.Config.{built_in};
+ghost use Rattle.ch_player.specs.Playing.{IsAt, IsSound, config_of};
 ghost use Rattle.ch_replay.specs.Serving.{Serves, Stops, EndsAt};
 
 use crate::line_reader::{LineReader, Next};
-use crate::player::{LineFault, Player};
 use crate::printing::{error_line, long_line};
-use ch_base::Text;
+use ch_base::{Memory, Text};
+use ch_config::Config;
 use ch_io::{Sink, Source, write_all};
+use ch_player::{LineFault, Player};
 use ch_transcript::Ending;
 use std::alloc::Global;
 
@@ -38,7 +40,7 @@ pub fn replay<S: Source, K: Sink>(
     ensures usage { result ≡ 2 → WritesLast usage_line (K.told sink.old) (K.told sink.new) (Rose (K.faults sink.old) (K.faults sink.new)) }
     ensures unread { result ≡ 2 → source.new ≡ source.old }
     ensures ran { is_replay words.now ≡ true → (ending : Ending) × (result ≡ status_of ending)
-        × Ran (S.left source.old) (S.left source.new) (K.told sink.old) (K.told sink.new) (Rose (K.faults sink.old) (K.faults sink.new)) ending }
+        × Ran built_in (S.left source.old) (S.left source.new) (K.told sink.old) (K.told sink.new) (Rose (K.faults sink.old) (K.faults sink.new)) ending }
     ensures read_fault { result ≡ 5 → Rose (S.faults source.old) (S.faults source.new) }
     ensures write_fault { result ≡ 6 → Rose (K.faults sink.old) (K.faults sink.new) }
 {
@@ -74,11 +76,11 @@ fn is_replay(words: &[Text]) -> bool
 
 /// Replays line by line: the output of a line is written before the next one is read.
 fn replay_lines<S: Source, K: Sink>(alloc: Global, source: &mut S, sink: &mut K) -> Ending
-    ensures ran { Ran (S.left source.old) (S.left source.new) (K.told sink.old) (K.told sink.new) (Rose (K.faults sink.old) (K.faults sink.new)) result }
+    ensures ran { Ran built_in (S.left source.old) (S.left source.new) (K.told sink.old) (K.told sink.new) (Rose (K.faults sink.old) (K.faults sink.new)) result }
     ensures read_fault { result ≡ Ending.ReadFailed → Rose (S.faults source.old) (S.faults source.new) }
     ensures write_fault { result ≡ Ending.WriteFailed → Rose (K.faults sink.old) (K.faults sink.new) }
 {
-    let Ok(mut player) = Player::new(alloc) else {
+    let Ok(mut player) = new_player(alloc) else {
         return Ending::Memory;
     };
     let mut reader = LineReader::new();
@@ -103,6 +105,16 @@ fn replay_lines<S: Source, K: Sink>(alloc: Global, source: &mut S, sink: &mut K)
     }
 }
 
+/// The player of a transcript, from its beginning, under the built-in configuration.
+fn new_player(alloc: Global) -> Result<Player, Memory>
+    ensures stands { IfOk result (λ player. IsAt player beginning) }
+    ensures sound { IfOk result IsSound }
+    ensures over { IfOk result (λ player. config_of player ≡ built_in) }
+{
+    let config = Config::built_in(alloc)?;
+    Player::new(alloc, config)
+}
+
 /// Plays a line, and writes its output.
 fn serve<K: Sink>(
     player: &mut Player,
@@ -110,9 +122,12 @@ fn serve<K: Sink>(
     out: &mut Vec<u8>,
     sink: &mut K,
 ) -> Result<(), Ending>
+    requires sound { IsSound player.old }
     ensures serves { (p : Progress) → IsAt player.old p → MatchResult result
-        (λ _. Serves player.new (K.told sink.old) (K.told sink.new) (played p line.now))
-        (λ ending. Stops ending (K.told sink.old) (K.told sink.new) (played p line.now)) }
+        (λ _. Serves player.new (K.told sink.old) (K.told sink.new) (Plays (config_of player.old) p line.now))
+        (λ ending. Stops ending (K.told sink.old) (K.told sink.new) (Plays (config_of player.old) p line.now)) }
+    ensures sound { OnOk result (IsSound player.new) }
+    ensures over { config_of player.new ≡ config_of player.old }
     ensures later { K.faults sink.old ≤ K.faults sink.new }
     ensures failed { result ≡ Err Ending.WriteFailed → Rose (K.faults sink.old) (K.faults sink.new) }
 {

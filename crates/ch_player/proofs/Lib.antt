@@ -1,0 +1,4 @@
+pub mod JsonStrings
+pub mod Played
+pub mod Roundings
+pub mod Tellings

@@ -1,0 +1,16 @@
+use Rattle.std.proofs.Common.{refl, arith}
+use Rattle.ch_transcript.specs.Transcript.{at_moment}
+use Rattle.ch_transcript.specs.declared.commands.Line.TheVariants.{Timed}
+use Rattle.ch_player.specs.Playing.{PlaysLine}
+use Rattle.ch_player.proofs.Played.{answer_map, timed_none, timed_is}
+use Rattle.ch_player.proofs.player.Player.obey_at.Goals as goal
+
+pub returns-then-at-self-clause-obeys : goal.returns-then-at-self-clause-obeys
+returns-then-at-self-clause-obeys c = λ p is.
+    timed_none c.args.self.now.config p c.args.at c.args.command.now (omega (arith, is.at, c.if-at-self.true))
+
+pub returns-clause-obeys : goal.returns-clause-obeys
+returns-clause-obeys c = λ p is.
+    answer_map c.obey_whole.result c.obey_whole.new.self c.args.out.now.items c.obey_whole.new.out.items _ (PlaysLine c.args.self.now.config p (Timed c.args.at c.args.command.now))
+    (timed_is c.args.self.now.config p c.args.at c.args.command.now (omega (arith, is.at, c.if-at-self.false)))
+    (c.obey_whole.ensures.obeys (at_moment c.args.at p) (record { at = refl; seats = is.seats; shards = is.shards }))

@@ -1,0 +1,18 @@
+use Rattle.std.proofs.Common.{◌≡◌, ℕ, ◌<◌, ◌≤◌, List, length}
+use Rattle.ch_base.specs.declared.channel.ChanCall.TheVariants.{Take}
+use Rattle.ch_desk.specs.Bench.{seen}
+use Rattle.ch_socket.specs.Sockets.{IsAtShards}
+use Rattle.ch_transcript.specs.Transcript.{Socket, Shards, tells_all, with_call}
+use Rattle.ch_player.specs.Seats.{AreSeats, SameSessions, Tells}
+use Rattle.ch_player.specs.Rounding.{chans_waiting}
+use Rattle.ch_player.proofs.rounds.tell_chans.Given as goal
+
+abbrev pub invariant-loop-k : goal.invariant-loop-k
+invariant-loop-k l = record {
+  sessions : SameSessions l.fn.seats.items l.seats.items;
+  shards : length l.bench.shards ≡ length l.fn.bench.shards;
+  users : l.bench.users ≡ l.fn.bench.users;
+  told : (sockets : List Socket) (shards : Shards) → AreSeats l.fn.seats.items sockets → IsAtShards l.fn.bench shards → Tells l.seats.items l.fn.out.items l.out.items (tells_all sockets (chans_waiting shards l.k));
+  done : (j : ℕ) → j < l.k → seen l.bench j ≡ with_call (seen l.fn.bench j) Take;
+  left : (j : ℕ) → l.k ≤ j → seen l.bench j ≡ seen l.fn.bench j;
+}

@@ -1,0 +1,6 @@
+pub mod JsonString
+pub mod Seats
+pub mod Playing
+pub mod Rounding
+pub mod Taking
+pub mod Steps
