@@ -14,6 +14,7 @@ mod user_copies;
 mod user_seat;
 
 pub use bench::Bench;
+pub use ch_protocol::{AnswerList, Ask, AskList, Made};
 pub use desk::Desk;
 
 #[cfg(test)]

@@ -1,4 +1,7 @@
-use crate::{Got, MemSink, MemSource, ReaderSource, Sink, Source, WriterSink, Wrote, write_all};
+use crate::{
+    Clock, Got, MemClock, MemSink, MemSource, ReaderSource, Sink, Source, WriterSink, Wrote,
+    write_all,
+};
 use std::alloc::Global;
 use std::io;
 use std::io::{ErrorKind, Read, Write};
@@ -77,5 +80,15 @@ fn a_writer_is_a_sink(rt: HostRuntime) -> Result<(), Fail> {
     assert_eq!(rt; written.as_slice(), b"abc".as_slice());
     let mut broken = WriterSink::new(Broken);
     assert_eq!(rt; broken.write(b"a"), Wrote::Failed);
+    Ok(())
+}
+
+#[test]
+fn a_clock_in_memory_gives_its_moments(rt: HostRuntime) -> Result<(), Fail> {
+    let alloc: Global = rt.alloc();
+    let mut clock = MemClock::new(vec![in alloc; 5, 1000, 1000]?);
+    for moment in [5, 1000, 1000, 1000] {
+        assert_eq!(rt; clock.now(), moment);
+    }
     Ok(())
 }

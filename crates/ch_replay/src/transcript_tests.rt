@@ -391,3 +391,38 @@ fn the_last_calls_of_a_shard_are_shown(rt: HostRuntime) -> Result<(), Fail> {
     assert_eq!(rt; replayed(alloc, &input)?, done(alloc, &output)?);
     Ok(())
 }
+
+/// 102 connections, of which the first 101 join a presence channel as users of their own.
+fn crowd(alloc: Global) -> Result<Text, Fail> {
+    let mut text = Text::new(alloc);
+    for _socket in 0..102_u64 {
+        text.push_str("0 open /app/k?protocol=7\n")?;
+    }
+    for n in 1..102_u64 {
+        let line = format!(in alloc; "0 join {n} presence-r {{\"user_id\":\"u{n}\"}}\n")?;
+        text.push_str(line.as_str())?;
+    }
+    Ok(text)
+}
+
+/// Whether what a replay of this text writes ends so.
+fn ends_so(alloc: Global, text: &Text, end: &str) -> Result<bool, Fail> {
+    let words = words(alloc, &["replay"])?;
+    let mut source = source(alloc, text.as_str(), &[], 0)?;
+    let mut sink = sink(alloc, &[], 0)?;
+    let status = replay(alloc, words.as_slice(), None, &mut source, &mut sink);
+    Ok(status == 0 && sink.as_slice().ends_with(end.as_bytes()))
+}
+
+#[test]
+fn a_full_room_takes_no_new_user(rt: HostRuntime) -> Result<(), Fail> {
+    let alloc: Global = rt.alloc();
+    let mut text = crowd(alloc)?;
+    let refused =
+        "\n101 {\"event\":\"pusher:error\",\"data\":{\"message\":\"presence channel is full\",\"code\":4320}}\n";
+    assert!(rt; ends_so(alloc, &text, refused)?);
+    // a second socket of a user who is there still joins
+    text.push_str("1 join 102 presence-r {\"user_id\":\"u7\"}\n")?;
+    assert!(rt; ends_so(alloc, &text, ",\\\"count\\\":100}}\"}\n")?);
+    Ok(())
+}

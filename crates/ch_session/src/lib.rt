@@ -25,4 +25,6 @@ pub use session::Session;
 pub use start_fault::StartFault;
 
 #[cfg(test)]
+mod sign_in_tests;
+#[cfg(test)]
 mod tests;

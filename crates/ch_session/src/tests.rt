@@ -17,7 +17,7 @@ use std::test::Fail;
 
 /// The app of the worked examples of "Auth signatures" (Pusher Channels documentation), with two channel
 /// shards.
-fn example_app(alloc: Global) -> Result<Config, Fail>
+pub fn example_app(alloc: Global) -> Result<Config, Fail>
     ensures { IfOk result IsConfig }
 {
     let mut config = Config::built_in(alloc)?;
@@ -28,7 +28,7 @@ fn example_app(alloc: Global) -> Result<Config, Fail>
 }
 
 /// The socket 1234.1234 of those examples.
-fn example_socket(alloc: Global, config: &Config) -> Result<Session, Fail>
+pub fn example_socket(alloc: Global, config: &Config) -> Result<Session, Fail>
     requires { IsConfig config.now }
     ensures idle { IfOk result (λ s. s.waits ≡ Waiting.Nothing) }
     ensures over { IfOk result (λ s. IsOver s config.now) }
