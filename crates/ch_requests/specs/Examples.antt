@@ -1,0 +1,60 @@
+-- Paths, heads and replies, as a check of the definitions' text.
+use Rattle.std.specs.Prelude.{◌≡◌, ℕ, true, false, List, [], ◌∷◌, codes, Option, Some, None}
+use Rattle.ch_base.specs.declared.channel.ChanAnswer.TheVariants.{Sent, Rows, Looked, Ids}
+use Rattle.ch_protocol.specs.declared.ask.Made.TheVariants.{Chan}
+use Rattle.ch_requests.specs.Fields.{lists, body_length, missing, bad, is}
+use Rattle.ch_sig.specs.declared.query.Param.{Param}
+use Rattle.ch_requests.specs.Queries.{has_double}
+use Rattle.ch_requests.specs.Replies.{body_of, refusal, reply_text}
+use Rattle.ch_requests.specs.Routes.{route_of}
+use Rattle.ch_requests.specs.declared.head.HeadField.{HeadField}
+use Rattle.ch_requests.specs.declared.plan.ReplyForm.TheVariants.{Empty, Triggered, Channels as ChannelsForm, Channel as ChannelForm, Users}
+use Rattle.ch_requests.specs.declared.request.Route.{Route}
+use Rattle.ch_requests.specs.declared.request.Route.TheVariants.{Events, Channels, Channel, ChannelUsers, Terminate}
+
+abbrev pub route_at : List ℕ → Option Route
+route_at path = route_of (codes "1") path
+
+pub record Routes : Type 0 where
+  pub events : route_at (codes "/apps/1/events") ≡ Some Events
+  pub channels : route_at (codes "/apps/1/channels") ≡ Some Channels
+  pub channel : route_at (codes "/apps/1/channels/a%20b") ≡ Some (Channel (codes "a%20b"))
+  pub no_name : route_at (codes "/apps/1/channels/") ≡ None
+  pub users : route_at (codes "/apps/1/channels/presence-r/users") ≡ Some (ChannelUsers (codes "presence-r"))
+  pub terminate : route_at (codes "/apps/1/users/w/terminate_connections") ≡ Some (Terminate (codes "w"))
+  pub other_app : route_at (codes "/apps/2/events") ≡ None
+  pub no_path : route_at [] ≡ None
+  pub absolute : route_at (codes "http://h/apps/1/events") ≡ None
+
+abbrev pub field : List ℕ → List ℕ → HeadField
+field name value = record { name = name; value = value }
+
+abbrev pub param : List ℕ → List ℕ → Param
+param name value = record { name = name; value = value }
+
+pub record Looks : Type 0 where
+  pub any_case : lists (codes "websocket") (codes "h2c , WebSocket") ≡ true
+  pub not_a_part : lists (codes "websocket") (codes "websockets") ≡ false
+  pub none : body_length [] ≡ missing
+  pub one : body_length (field (codes "content-length") (codes "37") ∷ []) ≡ is 37
+  pub same : body_length (field (codes "Content-Length") (codes "37") ∷ field (codes "content-length") (codes "037") ∷ []) ≡ is 37
+  pub differing : body_length (field (codes "Content-Length") (codes "37") ∷ field (codes "content-length") (codes "38") ∷ []) ≡ bad
+  pub listed : body_length (field (codes "Content-Length") (codes "37, 37") ∷ []) ≡ bad
+  pub coded : body_length (field (codes "Content-Length") (codes "37") ∷ field (codes "Transfer-Encoding") [] ∷ []) ≡ missing
+  pub twice : has_double (param (codes "a") (codes "1") ∷ param (codes "b") (codes "2") ∷ param (codes "a") [] ∷ []) ≡ true
+  pub once : has_double (param (codes "a") (codes "1") ∷ param (codes "b") (codes "1") ∷ []) ≡ false
+
+pub record Bodies : Type 0 where
+  pub nothing : body_of Empty [] ≡ codes "{}"
+  pub counts : body_of (Triggered (record { channel = codes "a"; wanted = record { users = false; subs = true } }
+      ∷ record { channel = codes "b"; wanted = record { users = false; subs = true } } ∷ [])) (Chan (Sent 1 0) ∷ Chan (Sent 1 0) ∷ [])
+      ≡ codes "{\"channels\":{\"a\":{\"subscription_count\":1},\"b\":{\"subscription_count\":1}}}"
+  pub ascending : body_of (ChannelsForm (record { users = true; subs = false }))
+      (Chan (Rows (record { channel = codes "presence-b"; subs = 3; users = 2 } ∷ []))
+      ∷ Chan (Rows (record { channel = codes "presence-a"; subs = 1; users = 1 } ∷ [])) ∷ [])
+      ≡ codes "{\"channels\":{\"presence-a\":{\"user_count\":1},\"presence-b\":{\"user_count\":2}}}"
+  pub one_channel : body_of (ChannelForm (record { users = false; subs = true })) (Chan (Looked 2 0) ∷ [])
+      ≡ codes "{\"occupied\":true,\"subscription_count\":2}"
+  pub users : body_of Users (Chan (Ids (codes "u" ∷ codes "v" ∷ [])) ∷ []) ≡ codes "{\"users\":[{\"id\":\"u\"},{\"id\":\"v\"}]}"
+  pub refused : reply_text (refusal 401)
+      ≡ codes "HTTP/1.1 401 Unauthorized\r\nContent-Type: application/json\r\nContent-Length: 24\r\nConnection: close\r\n\r\n{\"error\":\"unauthorized\"}"

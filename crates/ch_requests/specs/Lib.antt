@@ -1,0 +1,11 @@
+pub mod Heads
+pub mod Fields
+pub mod Queries
+pub mod Routes
+pub mod Verdict
+pub mod Authorization
+pub mod Triggers
+pub mod Fit
+pub mod Replies
+pub mod Plans
+pub mod Examples

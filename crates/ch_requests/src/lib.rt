@@ -1,0 +1,20 @@
+//! Requests to the HTTP API: what its definitions are about, and the definitions (Pusher Channels documentation, HTTP
+//! API; RFC 9112).
+//!
+//! A crate of definitions, with no body of the program. `specs/` says which bytes are which request, which request is
+//! authorized, which events a body triggers, which calls on shards a request asks for, and what it is answered.
+#![tactic(auto)]
+
+mod examples;
+mod head;
+mod plan;
+mod reply;
+mod request;
+mod trigger;
+
+pub use examples::examples_hold;
+pub use head::{FieldList, Head, HeadField};
+pub use plan::{Counted, CountedList, Plan, Planned, ReplyForm, Wanted};
+pub use reply::Reply;
+pub use request::{Look, Request, Route};
+pub use trigger::{Trigger, TriggerList};
