@@ -12,13 +12,13 @@ use Rattle.ch_json.proofs.OneText.{one_text}
 use Rattle.ch_json.proofs.Forms.{string_from_form}
 use Rattle.ch_history.specs.Limits.{is_user_id}
 use Rattle.ch_history.specs.WellFormed.{IsMember}
-use Rattle.ch_protocol.specs.ObjectMembers.{HasOne, IsStringOf, HasString}
+use Rattle.ch_protocol.specs.ObjectMembers.{HasOne}
 use Rattle.ch_protocol.specs.ChannelData.{is_whole, IsIdOf, HasId, TellsMember}
 use Rattle.ch_frames.specs.declared.refused.Unread.{Unread}
-use Rattle.ch_frames.specs.Readings.{Gives}
+use Rattle.ch_members.specs.Readings.{Gives}
 use Rattle.ch_frames.specs.Ids.{good_id, whole_id, Told}
-use Rattle.ch_frames.proofs.MembersOfName.{one_value}
-use Rattle.ch_frames.proofs.SpelledValues.{spelled_json}
+use Rattle.ch_members.proofs.MembersOfName.{one_value}
+use Rattle.ch_members.proofs.SpelledValues.{spelled_json}
 
 -- what is one alone, where it is a good id
 pub gives_good : (P : List ℕ → Type 0) (id : List ℕ) → P id → ((x : List ℕ) → P x → id ≡ x) → Gives (λ x. P x × IsTrue (is_user_id x)) (good_id id)
@@ -27,20 +27,6 @@ gives_good P id h one = test (is_user_id id) refl
     test : (b : Bool) → b ≡ is_user_id id → Gives (λ x. P x × IsTrue (is_user_id x)) (if b then Some id else None)
     test true e = (h, sym e)
     test false e = λ x k. let bad : is_user_id x ≡ false = subst (λ (y : List ℕ). is_user_id y ≡ false) (one x k.0) (sym e) in absurd (cc (bad, k.1))
-
--- ---- strings
-
-pub string_once : (text : List ℕ) (v : Tree) (a b : List ℕ) → IsStringOf text v a → IsStringOf text v b → a ≡ b
-string_once text (plain null s) a b h k = absurd h
-string_once text (plain no s) a b h k = absurd h
-string_once text (plain yes s) a b h k = absurd h
-string_once text (plain number s) a b h k = absurd h
-string_once text (plain string s) a b h k = one_text (part text s) a b h k
-string_once text (array vs s) a b h k = absurd h
-string_once text (object ms s) a b h k = absurd h
-
-pub member_once : (text name : List ℕ) (ms : Members) (a b : List ℕ) → HasString text ms name a → HasString text ms name b → a ≡ b
-member_once text name ms a b (v, h, i) (w, k, j) = string_once text w a b (subst (λ (y : Tree). IsStringOf text y a) (one_value text name ms v w h k) i) j
 
 -- ---- ids of members
 

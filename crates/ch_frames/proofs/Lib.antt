@@ -1,9 +1,6 @@
 pub mod Joined
-pub mod MembersOfName
 pub mod ShapesOf
 pub mod FaultsOf
-pub mod Distinct
-pub mod SpelledValues
 pub mod VerdictsOf
 pub mod IdsOf
 pub mod Watchlists

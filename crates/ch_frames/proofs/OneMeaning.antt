@@ -1,39 +1,21 @@
 -- That each text has one meaning.
-use Rattle.std.proofs.Common.{◌≡◌, inl, inr, ℕ, List, [], ◌∷◌, length, Bool, true, false, refl, sym, ap, ap₂, ◌∙◌, subst, Some}
-use Rattle.std.specs.Prelude.{Option, None, Err, codes, nat_lt, MatchBool}
+use Rattle.std.proofs.Common.{◌≡◌, inl, inr, ℕ, List, [], ◌∷◌, length, Bool, true, false, refl, sym, ap, ap₂, ◌∙◌, subst}
+use Rattle.std.specs.Prelude.{Option, Err, codes, nat_lt, MatchBool}
 use Rattle.ch_base.specs.JsonTree.{Span, Tree, plain, null, no, yes, number, string, array, object, Items, Members}
 use Rattle.ch_base.specs.declared.channel.Member.{Member}
-use Rattle.ch_json.specs.Parts.{part, spelled_at, items_of}
+use Rattle.ch_json.specs.Parts.{part, items_of}
 use Rattle.ch_json.proofs.OneText.{one_text}
-use Rattle.ch_protocol.specs.ObjectMembers.{HasOne, IsStringOf, HasString, IsLeftOut, HasOptional, HasSpelled}
+use Rattle.ch_protocol.specs.ObjectMembers.{HasOne, HasString, IsLeftOut, HasOptional, HasSpelled}
 use Rattle.ch_protocol.specs.ClientMessages.{Verdict, ClientEvent, ping, pong, subscribe, unsubscribe, sign_in, client, unknown, event_of, SubscribeShape, UnsubscribeShape, SignInShape, SayShape, checked, Shaped, SaysEvent, SaysObject, Says, longest_text}
 use Rattle.ch_protocol.specs.ChannelData.{IsIdOf, HasId, IsMemberData}
 use Rattle.ch_protocol.specs.UserDataText.{first_places, AreIds, HasWatchlist, IsUserData}
 use Rattle.ch_protocol.specs.declared.client_message.ClientMessage.{ClientMessage}
 use Rattle.ch_protocol.specs.declared.client_message.ClientMessage.TheVariants.{Ping, Pong, Subscribe, Unsubscribe, SignIn, Say}
 use Rattle.ch_protocol.specs.declared.client_message.UserData.{UserData}
-use Rattle.ch_frames.proofs.MembersOfName.{one_value, none_or_one}
+use Rattle.ch_members.proofs.MembersOfName.{one_value, none_or_one}
 use Rattle.ch_frames.proofs.ShapesOf.{same_data}
-use Rattle.ch_frames.proofs.SpelledValues.{same_object}
-use Rattle.ch_frames.proofs.IdsOf.{string_once, member_once}
-
--- ---- members
-
-left_out_or_string : (text name : List ℕ) (ms : Members) (x : List ℕ) → IsLeftOut text ms name → HasString text ms name x → ⊥
-left_out_or_string text name ms x (inl none) (v, h, i) = none_or_one text name ms v none h
-left_out_or_string text name ms x (inr (s, k)) (v, h, i) = subst (λ (y : Tree). IsStringOf text y x) (one_value text name ms v (plain null s) h k) i
-
-optional_once : (text name : List ℕ) (ms : Members) (a b : Option (List ℕ)) → HasOptional text ms name a → HasOptional text ms name b → a ≡ b
-optional_once text name ms None None h k = refl
-optional_once text name ms None (Some y) h k = absurd (left_out_or_string text name ms y h k)
-optional_once text name ms (Some x) None h k = absurd (left_out_or_string text name ms x k h)
-optional_once text name ms (Some x) (Some y) h k = ap (λ (z : List ℕ). Some z) (member_once text name ms x y h k)
-
-spelled_once : (text name : List ℕ) (ms : Members) (a b : List ℕ) → HasSpelled text ms name a → HasSpelled text ms name b → a ≡ b
-spelled_once text name ms a b (inl (none, e)) (inl (none2, f)) = e ∙ sym f
-spelled_once text name ms a b (inl (none, e)) (inr (v, h, f)) = absurd (none_or_one text name ms v none h)
-spelled_once text name ms a b (inr (v, h, e)) (inl (none, f)) = absurd (none_or_one text name ms v none h)
-spelled_once text name ms a b (inr (v, h, e)) (inr (w, k, f)) = e ∙ ap (λ (y : Tree). part text (spelled_at y)) (one_value text name ms v w h k) ∙ sym f
+use Rattle.ch_members.proofs.SpelledValues.{same_object}
+use Rattle.ch_members.proofs.OnlyOne.{string_once, member_once, optional_once, spelled_once, array_once}
 
 -- ---- messages
 
@@ -174,15 +156,12 @@ left_out_or_array : (text : List ℕ) (ms : Members) (vs : Items) (s : Span) →
 left_out_or_array text ms vs s (inl none) k = none_or_one text (codes "watchlist") ms (array vs s) none k
 left_out_or_array text ms vs s (inr (t, h)) k = let same : plain null t ≡ array vs s = one_value text (codes "watchlist") ms (plain null t) (array vs s) h k in cc
 
-same_items : (vs ws : Items) (s t : Span) → array vs s ≡ array ws t → vs ≡ ws
-same_items vs ws s t e = cc
-
 watchlist_once : (text : List ℕ) (ms : Members) (a b : List (List ℕ)) → HasWatchlist text ms a → HasWatchlist text ms b → a ≡ b
 watchlist_once text ms a b (inl (out, e)) (inl (out2, f)) = e ∙ sym f
 watchlist_once text ms a b (inl (out, e)) (inr (vs, s, k, list)) = absurd (left_out_or_array text ms vs s out k)
 watchlist_once text ms a b (inr (vs, s, h, list)) (inl (out, f)) = absurd (left_out_or_array text ms vs s out h)
 watchlist_once text ms a b (inr (vs, s, h, list)) (inr (ws, t, k, list2)) =
-    let same : ws ≡ vs = same_items ws vs t s (one_value text (codes "watchlist") ms (array ws t) (array vs s) k h) in
+    let same : ws ≡ vs = array_once text (codes "watchlist") ms ws vs (t, k) (s, h) in
     let ids = ids_once text (items_of vs) list.ids list2.ids list.are (subst (λ (y : Items). AreIds text (items_of y) list2.ids) same list2.are) in
     list.once ∙ ap first_places ids ∙ sym list2.once
 

@@ -1,31 +1,24 @@
 -- The shapes of messages, and what a look that finds nothing rules out.
 use Rattle.std.proofs.Common.{◌≡◌, ℕ, List, Some, refl, subst}
 use Rattle.std.specs.Prelude.{Option, None, codes}
-use Rattle.ch_base.specs.JsonTree.{object, Members}
+use Rattle.ch_base.specs.JsonTree.{Members}
 use Rattle.ch_json.specs.Document.{Document}
 use Rattle.ch_json.specs.declared.node.Node.{Node}
 use Rattle.ch_protocol.specs.ObjectMembers.{HasString, HasOptional, HasSpelled}
 use Rattle.ch_protocol.specs.ClientMessages.{HasData, SubscribeShape, UnsubscribeShape, SignInShape, SayShape}
 use Rattle.ch_protocol.specs.declared.client_message.ClientMessage.{ClientMessage}
 use Rattle.ch_protocol.specs.declared.client_message.ClientMessage.TheVariants.{Ping, Pong, Subscribe, Unsubscribe, SignIn, Say}
-use Rattle.ch_frames.specs.Readings.{Gives, ReadsData}
-use Rattle.ch_frames.proofs.MembersOfName.{one_value}
+use Rattle.ch_members.specs.Readings.{ReadsObjectMember}
+use Rattle.ch_members.proofs.OnlyOne.{object_once}
 
--- ---- what was looked for
+-- ---- the member `data`
 
-pub gives_some : {A : Type 0} (P : A → Type 0) (o : Option A) (x : A) → Gives P o → o ≡ Some x → P x
-gives_some P o x h e = subst (Gives P) e h
-
-pub gives_none : {A : Type 0} (P : A → Type 0) (o : Option A) → Gives P o → ((x : A) → o ≡ Some x → ⊥) → (x : A) → P x → ⊥
-gives_none P (Some y) h other x k = other y refl
-gives_none P None h other x k = h x k
-
-pub reads_none : (text : List ℕ) (d : Document) (ms : Members) (o : Option Node) → ReadsData text d ms o → ((n : Node) → o ≡ Some n → ⊥) → (inner : Members) → HasData text ms inner → ⊥
+pub reads_none : (text : List ℕ) (d : Document) (ms : Members) (o : Option Node) → ReadsObjectMember text d ms (codes "data") o → ((n : Node) → o ≡ Some n → ⊥) → (inner : Members) → HasData text ms inner → ⊥
 reads_none text d ms (Some n) h other inner k = other n refl
 reads_none text d ms None h other inner k = h inner k
 
 pub same_data : (text : List ℕ) (ms a b : Members) → HasData text ms a → HasData text ms b → a ≡ b
-same_data text ms a b (s, h) (t, k) = let same : object a s ≡ object b t = one_value text (codes "data") ms (object a s) (object b t) h k in cc
+same_data text ms a b h k = object_once text (codes "data") ms a b h k
 
 pub other_string : (text name : List ℕ) (ms a b : Members) → HasData text ms a → HasData text ms b → ((x : List ℕ) → HasString text a name x → ⊥) → (x : List ℕ) → HasString text b name x → ⊥
 other_string text name ms a b h k none x has = none x (subst (λ (y : Members). HasString text y name x) (same_data text ms b a k h) has)

@@ -12,10 +12,10 @@ use Rattle.ch_protocol.specs.declared.client_message.ClientMessage.{ClientMessag
 use Rattle.ch_protocol.specs.declared.client_message.ClientMessage.TheVariants.{Ping, Pong, Subscribe, Unsubscribe, SignIn, Say}
 use Rattle.ch_frames.specs.declared.refused.Refused.{Refused}
 use Rattle.ch_frames.specs.declared.refused.Refused.TheVariants.{Code, Memory}
-use Rattle.ch_frames.specs.Readings.{Gives}
+use Rattle.ch_members.specs.Readings.{Gives}
 use Rattle.ch_frames.specs.Verdicts.{Tells, answer_of, judged}
 use Rattle.ch_frames.specs.Checked.{IsGoodMessage, IsCode, IsRefusal}
-use Rattle.ch_frames.proofs.SpelledValues.{spelled_json}
+use Rattle.ch_members.proofs.SpelledValues.{spelled_json}
 
 -- ---- answers
 

@@ -1,9 +1,10 @@
 -- Ids that are read, where they are good.
 use Rattle.std.specs.Prelude.{◌≡◌, ◌⊎◌, ℕ, Bool, ◌||◌, ◌==◌, List, [], Option, Some, None, Result, Ok, Err, if◌then◌else◌, IsTrue}
+use Rattle.std.specs.List.{list_all}
 use Rattle.ch_base.specs.JsonTree.{Span, Tree, plain, null, array, Items, Members}
 use Rattle.ch_base.specs.JsonText.{is_e}
 use Rattle.ch_history.specs.Limits.{is_user_id}
-use Rattle.ch_protocol.specs.ObjectMembers.{IsStringOf, HasString}
+use Rattle.ch_protocol.specs.ObjectMembers.{HasString}
 use Rattle.ch_protocol.specs.ChannelData.{is_whole}
 use Rattle.ch_protocol.specs.UserDataText.{IsIdList}
 use Rattle.ch_frames.specs.declared.refused.Unread.{Unread}
@@ -16,12 +17,11 @@ is_point_or_e b = (b == 46) || is_e b
 abbrev pub good_id : List ℕ → Option (List ℕ)
 good_id id = if is_user_id id then Some id else None
 
+abbrev pub good_ids : List (List ℕ) → Option (List (List ℕ))
+good_ids ids = if list_all is_user_id ids then Some ids else None
+
 abbrev pub whole_id : List ℕ → Option (List ℕ)
 whole_id number = if is_whole number then good_id number else None
-
--- the value is a string that stands for this good user id
-abbrev pub IsGoodString : List ℕ → Tree → List ℕ → Type 0
-IsGoodString text v id = IsStringOf text v id × IsTrue (is_user_id id)
 
 -- the member `id` is
 abbrev pub HasGoodId : List ℕ → Members → List ℕ → List ℕ → Type 0

@@ -1,4 +1,3 @@
-pub mod Readings
 pub mod Verdicts
 pub mod Checked
 pub mod Ids

@@ -1,21 +1,41 @@
 //! Good user ids.
 ghost use Rattle.std.specs.Prelude.{◌≡◌};
-ghost use Rattle.std.specs.List.{list_any};
+ghost use Rattle.std.specs.List.{list_all, list_any};
+ghost use Rattle.ch_history.specs.Limits.{is_user_id};
 ghost use Rattle.ch_protocol.specs.ChannelData.{is_whole};
-ghost use Rattle.ch_frames.specs.Ids.{good_id, whole_id, is_point_or_e};
+ghost use Rattle.ch_frames.specs.Ids.{good_id, good_ids, whole_id, is_point_or_e};
 
-use ch_base::Text;
+use ch_base::{Text, TextList};
 use ch_names::user_id;
 
 /// The id where it is a good user id.
 pub fn good_id(id: Text) -> Option<Text>
     ensures { result ≡ good_id id }
 {
-    if user_id(id.as_str()).is_ok() {
-        Some(id)
+    if is_good(&id) { Some(id) } else { None }
+}
+
+/// The ids where all are good user ids.
+pub fn good_ids(ids: TextList) -> Option<TextList>
+    ensures { result ≡ good_ids ids }
+{
+    if are_good(ids.as_slice()) {
+        Some(ids)
     } else {
         None
     }
+}
+
+fn are_good(ids: &[Text]) -> bool
+    ensures { result ≡ list_all is_user_id ids.now }
+{
+    ids.iter().all(|id| is_good(id))
+}
+
+fn is_good(id: &Text) -> bool
+    ensures { result ≡ is_user_id id.now }
+{
+    user_id(id.as_str()).is_ok()
 }
 
 /// The number where it is whole and, as it is spelled, a good user id.

@@ -13,14 +13,12 @@ mod ids;
 mod laws;
 mod member;
 mod message;
-mod object;
 mod presence;
 mod printed_law;
 mod printing;
 mod refused;
 mod shapes;
 mod user;
-mod values;
 
 pub use ch_protocol::{ClientMessage, UserData};
 pub use laws::{one_member, one_user, one_verdict};

@@ -4,15 +4,14 @@ ghost use Rattle.ch_base.specs.JsonTree.{Tree, Members};
 ghost use Rattle.ch_json.specs.NodeOf.{IsNode, IsObject};
 ghost use Rattle.ch_history.specs.WellFormed.{IsMember};
 ghost use Rattle.ch_protocol.specs.ChannelData.{IsIdOf, HasId, TellsMember};
-ghost use Rattle.ch_frames.specs.Readings.{Gives, IsValue, IsObjectOf, IsObjectDoc};
+ghost use Rattle.ch_members.specs.Readings.{Gives, IsValue, IsObjectOf, IsObjectDoc};
 ghost use Rattle.ch_frames.specs.Ids.{Told};
 
 use crate::ids::{good_id, whole_id};
-use crate::object::object_of;
 use crate::refused::Unread;
-use crate::values::spelled_member;
 use ch_base::{Member, Memory, Text};
 use ch_json::{Doc, Form, Found, Node, unescape};
+use ch_members::{object_of, spelled_member};
 use std::alloc::Global;
 
 /// The longest data, in bytes.

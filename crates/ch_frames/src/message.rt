@@ -3,18 +3,17 @@ ghost use Rattle.std.specs.Prelude.{◌≡◌, IfOk, IfErr};
 ghost use Rattle.ch_base.specs.JsonTree.{Members};
 ghost use Rattle.ch_json.specs.NodeOf.{IsObject};
 ghost use Rattle.ch_protocol.specs.ClientMessages.{Says, SaysObject, SaysEvent, event_of};
-ghost use Rattle.ch_frames.specs.Readings.{IsObjectOf, IsObjectDoc};
+ghost use Rattle.ch_members.specs.Readings.{IsObjectOf, IsObjectDoc};
 ghost use Rattle.ch_frames.specs.Verdicts.{Tells, judged};
 ghost use Rattle.ch_frames.specs.Checked.{IsGoodMessage, IsRefusal};
 
 use crate::checks::fault_of;
 use crate::client_event::{Event, event_of};
-use crate::object::object_of;
 use crate::refused::Refused;
 use crate::shapes::{say, sign_in, subscribe, unsubscribe};
-use crate::values::string_member;
 use ch_base::Text;
 use ch_json::{Doc, Node};
+use ch_members::{object_of, string_member};
 use ch_protocol::ClientMessage;
 use std::alloc::Global;
 

@@ -3,11 +3,11 @@ ghost use Rattle.std.specs.Prelude.{IfOk};
 ghost use Rattle.ch_base.specs.JsonTree.{Members};
 ghost use Rattle.ch_json.specs.NodeOf.{IsObject};
 ghost use Rattle.ch_protocol.specs.ClientMessages.{SubscribeShape, UnsubscribeShape, SignInShape, SayShape};
-ghost use Rattle.ch_frames.specs.Readings.{Gives, IsObjectOf};
+ghost use Rattle.ch_members.specs.Readings.{Gives, IsObjectOf};
 
-use crate::values::{data_member, optional_member, spelled_member, string_member};
 use ch_base::{Memory, Text};
 use ch_json::{Doc, Node};
+use ch_members::{object_member, optional_member, spelled_member, string_member};
 use ch_protocol::ClientMessage;
 use std::alloc::Global;
 
@@ -21,7 +21,7 @@ pub fn subscribe(
     requires { IsObject text.now doc.now node }
     ensures { (ms : Members) → IsObjectOf text.now doc.now node ms → IfOk result (Gives (SubscribeShape text.now ms)) }
 {
-    let Some(inner) = data_member(text, doc, node) else {
+    let Some(inner) = object_member(text, doc, node, "data") else {
         return Ok(None);
     };
     let Some(channel) = string_member(alloc, text, doc, inner, "channel")? else {
@@ -50,7 +50,7 @@ pub fn unsubscribe(
     requires { IsObject text.now doc.now node }
     ensures { (ms : Members) → IsObjectOf text.now doc.now node ms → IfOk result (Gives (UnsubscribeShape text.now ms)) }
 {
-    let Some(inner) = data_member(text, doc, node) else {
+    let Some(inner) = object_member(text, doc, node, "data") else {
         return Ok(None);
     };
     let Some(channel) = string_member(alloc, text, doc, inner, "channel")? else {
@@ -69,7 +69,7 @@ pub fn sign_in(
     requires { IsObject text.now doc.now node }
     ensures { (ms : Members) → IsObjectOf text.now doc.now node ms → IfOk result (Gives (SignInShape text.now ms)) }
 {
-    let Some(inner) = data_member(text, doc, node) else {
+    let Some(inner) = object_member(text, doc, node, "data") else {
         return Ok(None);
     };
     let Some(auth) = string_member(alloc, text, doc, inner, "auth")? else {

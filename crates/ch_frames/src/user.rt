@@ -1,19 +1,18 @@
 //! Who signs in, and whom that user watches.
-ghost use Rattle.std.specs.Prelude.{◌≡◌, ℕ, IfOk, length};
-ghost use Rattle.ch_base.specs.JsonTree.{Span, Tree, Items, Members, array};
+ghost use Rattle.std.specs.Prelude.{IfOk};
+ghost use Rattle.ch_base.specs.JsonTree.{Tree, Items, Members};
 ghost use Rattle.ch_json.specs.NodeOf.{IsNode, IsObject};
 ghost use Rattle.ch_json.specs.Parts.{items_of};
-ghost use Rattle.ch_protocol.specs.UserDataText.{AreIds, HasWatchlist, TellsUser, first_places};
-ghost use Rattle.ch_frames.specs.Readings.{Gives, IsValue, IsObjectOf, IsObjectDoc};
-ghost use Rattle.ch_frames.specs.Ids.{Told, IsGoodString, HasGoodId, IsWatchlist};
+ghost use Rattle.ch_protocol.specs.UserDataText.{AreIds, HasWatchlist, TellsUser};
+ghost use Rattle.ch_members.specs.Readings.{Gives, IsValue, IsObjectOf, IsObjectDoc, IsArrayOf};
+ghost use Rattle.ch_frames.specs.Ids.{Told, HasGoodId, IsWatchlist};
 ghost use Rattle.ch_frames.specs.Checked.{IsGoodUser};
 
-use crate::ids::good_id;
-use crate::object::object_of;
+use crate::ids::{good_id, good_ids};
 use crate::refused::Unread;
-use crate::values::{string_at, string_member};
 use ch_base::{Memory, Text, TextList};
 use ch_json::{Doc, Form, Found, Node};
+use ch_members::{Array, first_places, object_of, string_member, strings_of};
 use ch_protocol::UserData;
 use std::alloc::Global;
 
@@ -98,7 +97,7 @@ fn watchlist_at(
             if count > LONGEST_WATCHLIST {
                 return Ok(None);
             }
-            let Some(ids) = ids_at(alloc, text, doc, node, count)? else {
+            let Some(ids) = ids_of(alloc, text, doc, Array { node, count })? else {
                 return Ok(None);
             };
             let watchlist = first_places(alloc, ids.as_slice())?;
@@ -108,48 +107,13 @@ fn watchlist_at(
     }
 }
 
-/// The ids that are the values of an array of so many.
-fn ids_at(
-    alloc: Global,
-    text: &str,
-    doc: &Doc,
-    node: Node,
-    count: u64,
-) -> Result<Option<TextList>, Memory>
-    requires { (vs : Items) × (s : Span) × IsNode text.now doc.now node (array vs s) × (count ≡ length (items_of vs)) }
-    ensures { (vs : Items) (s : Span) → IsNode text.now doc.now node (array vs s) → count ≡ length (items_of vs) →
-        IfOk result (Gives (AreIds text.now (items_of vs))) }
+/// The good user ids that the values of an array stand for.
+fn ids_of(alloc: Global, text: &str, doc: &Doc, array: Array) -> Result<Option<TextList>, Memory>
+    requires { (vs : Items) × IsArrayOf text.now doc.now array vs }
+    ensures { (vs : Items) → IsArrayOf text.now doc.now array vs → IfOk result (Gives (AreIds text.now (items_of vs))) }
 {
-    let mut ids = TextList::new(alloc);
-    for i in 0..count {
-        let Some(id) = good_string_at(alloc, text, doc, doc.item(node, i))? else {
-            return Ok(None);
-        };
-        ids.push(id)?;
-    }
-    Ok(Some(ids))
-}
-
-/// The good user id that a string stands for.
-fn good_string_at(alloc: Global, text: &str, doc: &Doc, node: Node) -> Result<Option<Text>, Memory>
-    requires { IsValue text.now doc.now node }
-    ensures { (v : Tree) → IsNode text.now doc.now node v → IfOk result (Gives (IsGoodString text.now v)) }
-{
-    match string_at(alloc, text, doc, node)? {
-        Some(id) => Ok(good_id(id)),
+    match strings_of(alloc, text, doc, array)? {
+        Some(ids) => Ok(good_ids(ids)),
         None => Ok(None),
     }
-}
-
-/// Each id at its first place alone.
-fn first_places(alloc: Global, ids: &[Text]) -> Result<TextList, Memory>
-    ensures { IfOk result (λ kept. kept ≡ first_places ids.now) }
-{
-    let mut kept = TextList::new(alloc);
-    for id in ids {
-        if !kept.as_slice().contains(id) {
-            kept.push(id.copy(alloc)?)?;
-        }
-    }
-    Ok(kept)
 }

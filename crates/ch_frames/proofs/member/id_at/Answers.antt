@@ -2,8 +2,8 @@ use Rattle.std.proofs.Common.{◌∙◌, sym, ap, subst}
 use Rattle.ch_json.specs.Entries.{span_of}
 use Rattle.ch_json.specs.Parts.{part}
 use Rattle.ch_protocol.specs.ChannelData.{IsIdOf}
-use Rattle.ch_frames.specs.Readings.{Gives}
-use Rattle.ch_frames.proofs.MembersOfName.{string_span}
+use Rattle.ch_members.specs.Readings.{Gives}
+use Rattle.ch_members.proofs.MembersOfName.{string_span}
 use Rattle.ch_frames.proofs.IdsOf.{string_id, number_id, no_id}
 use Rattle.ch_frames.proofs.member.id_at.Goals as goal
 

@@ -2,8 +2,9 @@ use Rattle.std.proofs.Common.{subst}
 use Rattle.std.specs.Prelude.{codes}
 use Rattle.ch_json.specs.Named.{Named}
 use Rattle.ch_protocol.specs.ChannelData.{IsIdOf, HasId}
-use Rattle.ch_frames.specs.Readings.{Gives}
-use Rattle.ch_frames.proofs.MembersOfName.{on_ok, not_one}
+use Rattle.ch_members.specs.Readings.{Gives}
+use Rattle.ch_members.proofs.Gives.{on_ok}
+use Rattle.ch_members.proofs.MembersOfName.{not_one}
 use Rattle.ch_frames.proofs.IdsOf.{gives_id}
 use Rattle.ch_frames.proofs.member.id_member.Goals as goal
 

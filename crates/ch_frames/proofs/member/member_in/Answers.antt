@@ -3,8 +3,8 @@ use Rattle.std.specs.Prelude.{codes}
 use Rattle.ch_base.specs.JsonTree.{Members, object as object_form}
 use Rattle.ch_protocol.specs.ObjectMembers.{HasSpelled}
 use Rattle.ch_protocol.specs.ChannelData.{HasId}
-use Rattle.ch_frames.proofs.ShapesOf.{gives_some, gives_none}
-use Rattle.ch_frames.proofs.SpelledValues.{same_object}
+use Rattle.ch_members.proofs.Gives.{gives_some, gives_none}
+use Rattle.ch_members.proofs.SpelledValues.{same_object}
 use Rattle.ch_frames.proofs.member.member_in.Goals as goal
 
 pub id_member-requires : goal.id_member-requires

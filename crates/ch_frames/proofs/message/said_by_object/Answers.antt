@@ -3,9 +3,9 @@ use Rattle.std.specs.Prelude.{codes}
 use Rattle.ch_base.specs.JsonTree.{Members, object as object_form}
 use Rattle.ch_protocol.specs.ObjectMembers.{HasString}
 use Rattle.ch_protocol.specs.ClientMessages.{SaysEvent, SaysObject, event_of}
-use Rattle.ch_frames.specs.Readings.{Gives}
-use Rattle.ch_frames.proofs.ShapesOf.{gives_some}
-use Rattle.ch_frames.proofs.SpelledValues.{same_object}
+use Rattle.ch_members.specs.Readings.{Gives}
+use Rattle.ch_members.proofs.Gives.{gives_some}
+use Rattle.ch_members.proofs.SpelledValues.{same_object}
 use Rattle.ch_frames.proofs.VerdictsOf.{tells_as}
 use Rattle.ch_frames.proofs.message.said_by_object.Goals as goal
 

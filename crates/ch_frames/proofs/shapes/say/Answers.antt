@@ -1,7 +1,8 @@
 use Rattle.std.proofs.Common.{refl}
 use Rattle.std.specs.Prelude.{codes}
 use Rattle.ch_protocol.specs.ObjectMembers.{HasString, HasSpelled}
-use Rattle.ch_frames.proofs.ShapesOf.{gives_some, gives_none, no_say}
+use Rattle.ch_members.proofs.Gives.{gives_some, gives_none}
+use Rattle.ch_frames.proofs.ShapesOf.{no_say}
 use Rattle.ch_frames.proofs.shapes.say.Goals as goal
 
 pub returns-in_default : goal.returns-in_default

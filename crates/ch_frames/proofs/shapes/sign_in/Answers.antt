@@ -1,13 +1,14 @@
 use Rattle.std.specs.Prelude.{codes}
 use Rattle.ch_protocol.specs.ObjectMembers.{HasString}
-use Rattle.ch_frames.proofs.ShapesOf.{gives_some, gives_none, reads_none, other_string, no_sign_in}
+use Rattle.ch_members.proofs.Gives.{gives_some, gives_none}
+use Rattle.ch_frames.proofs.ShapesOf.{reads_none, other_string, no_sign_in}
 use Rattle.ch_frames.proofs.shapes.sign_in.Goals as goal
 
 pub returns-in_default : goal.returns-in_default
 returns-in_default c = λ ms object.
     let text = c.args.text.now in
     no_sign_in text ms
-    (λ inner auth user given ha hu. reads_none text c.args.doc.now ms c.data_member.result (c.data_member.ensures ms object) c.in_default.not-Some inner given)
+    (λ inner auth user given ha hu. reads_none text c.args.doc.now ms c.object_member.result (c.object_member.ensures ms object) c.in_default.not-Some inner given)
 
 pub string_member-requires : goal.string_member-requires
 string_member-requires c =

@@ -1,9 +1,10 @@
 use Rattle.std.proofs.Common.{sym, subst}
 use Rattle.ch_protocol.specs.ObjectMembers.{HasString}
-use Rattle.ch_frames.specs.Readings.{Gives}
+use Rattle.ch_members.specs.Readings.{Gives}
 use Rattle.ch_frames.specs.Ids.{HasGoodId}
-use Rattle.ch_frames.proofs.ShapesOf.{gives_some}
-use Rattle.ch_frames.proofs.IdsOf.{gives_good, member_once}
+use Rattle.ch_members.proofs.Gives.{gives_some}
+use Rattle.ch_members.proofs.OnlyOne.{member_once}
+use Rattle.ch_frames.proofs.IdsOf.{gives_good}
 use Rattle.ch_frames.proofs.user.id_member.Goals as goal
 
 pub returns-in-Some : goal.returns-in-Some

@@ -2,9 +2,9 @@ use Rattle.std.proofs.Common.{subst, inl}
 use Rattle.std.specs.Prelude.{codes}
 use Rattle.ch_json.specs.Named.{Named}
 use Rattle.ch_protocol.specs.UserDataText.{HasWatchlist}
-use Rattle.ch_frames.specs.Readings.{Gives}
+use Rattle.ch_members.specs.Readings.{Gives}
 use Rattle.ch_frames.specs.Ids.{IsWatchlist}
-use Rattle.ch_frames.proofs.MembersOfName.{on_ok}
+use Rattle.ch_members.proofs.Gives.{on_ok}
 use Rattle.ch_frames.proofs.Watchlists.{gives_watchlist, many_no_watchlist}
 use Rattle.ch_frames.proofs.user.watchlist_member.Goals as goal
 

@@ -1,7 +1,0 @@
-use Rattle.ch_base.specs.JsonTree.{Members}
-use Rattle.ch_frames.specs.Readings.{IsObjectOf}
-use Rattle.ch_frames.proofs.Distinct.{NamesSoFar}
-use Rattle.ch_frames.proofs.object.is_plain_object.Given as goal
-
-abbrev pub invariant-loop-i : goal.invariant-loop-i
-invariant-loop-i l = (ms : Members) → IsObjectOf l.text l.doc l.node ms → NamesSoFar l.text ms l.i l.names
