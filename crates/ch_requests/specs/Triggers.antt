@@ -1,5 +1,5 @@
 -- Which events a body triggers (Pusher Channels documentation, HTTP API, "POST event" and "POST batch events").
-use Rattle.std.specs.Prelude.{◌≡◌, ◌⊎◌, ◌≤◌, ◌==◌, ℕ, Bool, ◌&&◌, List, [], ◌∷◌, length, IsTrue, Option, Some, None, codes}
+use Rattle.std.specs.Prelude.{◌≡◌, ◌⊎◌, ◌≤◌, ◌==◌, ℕ, Bool, ◌&&◌, List, [], ◌∷◌, length, IsTrue, IsUtf8, Option, Some, None, codes}
 use Rattle.std.specs.List.{before_first, after_first}
 use Rattle.ch_base.specs.JsonTree.{Span, Tree, plain, string, array, object, Items, Members}
 use Rattle.ch_base.specs.JsonText.{Unescapes}
@@ -103,15 +103,16 @@ pub record IsEventList (text : List ℕ) (vs : Items) (ts : List Trigger) : Type
 
 -- ---- bodies
 
--- the body is the object of one event
+-- the body is UTF-8 (RFC 8259, section 8.1), and the object of one event
 abbrev pub TellsEvent : List ℕ → Trigger → Type 0
-TellsEvent body t = (ms : Members) × IsObjectText body ms × IsEvent HasEither body ms t
+TellsEvent body t = IsUtf8 body × ((ms : Members) × IsObjectText body ms × IsEvent HasEither body ms t)
 
--- the body is an object whose member `batch` has the events
+-- the body is UTF-8, and an object whose member `batch` has the events
 abbrev pub TellsBatch : List ℕ → List Trigger → Type 0
 TellsBatch body ts =
-    (ms : Members) × IsObjectText body ms
-    × ((vs : Items) × (s : Span) × HasOne body ms (codes "batch") (array vs s) × IsEventList body vs ts)
+    IsUtf8 body
+    × ((ms : Members) × IsObjectText body ms
+    × ((vs : Items) × (s : Span) × HasOne body ms (codes "batch") (array vs s) × IsEventList body vs ts))
 
 -- the events that the body of a request triggers; of other routes it isn't read
 abbrev pub Triggers : Route → List ℕ → List Trigger → Type 0
