@@ -1,0 +1,9 @@
+pub mod Addresses
+pub mod Config
+pub mod Fields
+pub mod Judging
+pub mod Numbers
+pub mod Parts
+pub mod Targets
+pub mod Values
+pub mod Words

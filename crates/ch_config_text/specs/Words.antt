@@ -1,0 +1,12 @@
+-- The texts that name an app and its secret.
+use Rattle.std.specs.Prelude.{ℕ, Bool, ◌&&◌, nat_le, List, length}
+use Rattle.std.specs.List.{list_all}
+use Rattle.std.specs.Char.{is_ascii_alphanumeric}
+
+-- 1 to 64 letters or digits
+abbrev pub is_word : List ℕ → Bool
+is_word text = nat_le 1 (length text) && nat_le (length text) 64 && list_all is_ascii_alphanumeric text
+
+-- 1 to 128 bytes
+abbrev pub is_secret : List ℕ → Bool
+is_secret text = nat_le 1 (length text) && nat_le (length text) 128
