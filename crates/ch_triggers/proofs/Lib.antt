@@ -1,0 +1,6 @@
+pub mod ContentsOf
+pub mod NamesOf
+pub mod ChannelsOf
+pub mod EventsOf
+pub mod BodiesOf
+pub mod FitOf
