@@ -1,0 +1,11 @@
+pub mod FieldLemmas
+pub mod FirstLemmas
+pub mod HandshakeLemmas
+pub mod HeadLemmas
+pub mod HeadingLemmas
+pub mod LengthLemmas
+pub mod LineLemmas
+pub mod MemberLemmas
+pub mod PlaceLemmas
+pub mod RouteLemmas
+pub mod VerdictLemmas
