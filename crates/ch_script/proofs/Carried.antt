@@ -1,16 +1,19 @@
 -- What the lines of a transcript carry.
 use Rattle.std.proofs.Common.{◌≡◌, ℕ, Bool, true, false, ◌&&◌, ◌≤◌, nat_le, List, cond, bytes_eq, refl}
-use Rattle.std.specs.Prelude.{Option, Some, None, IfSome, codes}
+use Rattle.std.specs.Prelude.{Option, Some, None, Result, Ok, Err, IfSome, codes}
 use Rattle.std.specs.Str.{is_utf8}
 use Rattle.std.specs.Str.Parse.{digits_value}
 use Rattle.std.specs.Fmt.{decimal}
 use Rattle.std.proofs.lemmas.Bool.{leb-true}
+use Rattle.hex.specs.Hex.{decode_of}
+use Rattle.hex.specs.declared.error.FromHexError.{FromHexError}
 use Rattle.ch_history.specs.ChannelName.{is_good_name}
 use Rattle.ch_history.specs.Limits.{is_event_name}
 use Rattle.ch_transcript.specs.declared.commands.Command.{Command}
-use Rattle.ch_transcript.specs.declared.commands.Command.TheVariants.{Join, Publish}
+use Rattle.ch_transcript.specs.declared.commands.Command.TheVariants.{Join, Publish, Api}
+use Rattle.ch_transcript.specs.declared.commands.Method.{Method}
 use Rattle.ch_transcript.specs.declared.commands.Line.TheVariants.{Skipped, Bad}
-use Rattle.ch_transcript.specs.Commands.{latest_moment, first_part, more_parts, number_in, open_in, say_in, join_in, sign_in_in, lose_in, tick_in, tail_in, publish_of, publish_on, publish_in, except_in, command_by, command_in, command_after, timed, is_skipped, line_in, line_of, IsCommand, IsLine}
+use Rattle.ch_transcript.specs.Commands.{latest_moment, first_part, more_parts, number_in, open_in, say_in, join_in, sign_in_in, lose_in, tick_in, tail_in, publish_of, publish_on, publish_in, except_in, method_in, is_plain, query_in, or_empty, api_of, api_on, api_in, http_of, command_by, command_in, command_after, timed, is_skipped, line_in, line_of, IsCommand, IsLine}
 
 and_left : (a b : Bool) → (a && b) ≡ true → a ≡ true
 and_left true b h = refl
@@ -79,12 +82,31 @@ except_in-is None rest = tt
 except_in-is (Some n) None = tt
 except_in-is (Some n) (Some rest) = publish_on-is (Some n) (first_part rest) (more_parts rest)
 
+api_of-is : (method : Option Method) (path query : List ℕ) (body : Option (List ℕ)) → Good (api_of method path query body)
+api_of-is None path query body = tt
+api_of-is (Some m) path query body =
+    chosen Good (is_plain path && is_plain query) (Some (Api m path (query_in query) (or_empty body))) None (λ _. tt) tt
+
+api_on-is : (method : Option Method) (path : List ℕ) (more : Option (List ℕ)) → Good (api_on method path more)
+api_on-is method path None = tt
+api_on-is method path (Some more) = api_of-is method path (first_part more) (more_parts more)
+
+api_in-is : (method : Option Method) (more : Option (List ℕ)) → Good (api_in method more)
+api_in-is method None = tt
+api_in-is method (Some more) = api_on-is method (first_part more) (more_parts more)
+
+http_of-is : (bytes : Result (List ℕ) FromHexError) → Good (http_of bytes)
+http_of-is (Ok bytes) = tt
+http_of-is (Err error) = tt
+
 -- the command of each word
 pub command_by-is : (word rest : List ℕ) → Good (command_by word rest)
 command_by-is word rest =
     let number = number_in (first_part rest) in
     let more = more_parts rest in
-    let tail = cond (bytes_eq word (codes "tail")) (tail_in (number_in rest)) None in
+    let http = cond (bytes_eq word (codes "http")) (http_of (decode_of rest)) None in
+    let api = cond (bytes_eq word (codes "api")) (api_in (method_in (first_part rest)) more) http in
+    let tail = cond (bytes_eq word (codes "tail")) (tail_in (number_in rest)) api in
     let except = cond (bytes_eq word (codes "except")) (except_in number more) tail in
     let publish = cond (bytes_eq word (codes "publish")) (publish_in None rest) except in
     let tick = cond (bytes_eq word (codes "tick")) (tick_in (number_in rest)) publish in
@@ -100,7 +122,9 @@ command_by-is word rest =
     (chosen Good (bytes_eq word (codes "tick")) (tick_in (number_in rest)) publish (λ _. tick_in-is (number_in rest))
     (chosen Good (bytes_eq word (codes "publish")) (publish_in None rest) except (λ _. publish_on-is None (first_part rest) (more_parts rest))
     (chosen Good (bytes_eq word (codes "except")) (except_in number more) tail (λ _. except_in-is number more)
-    (chosen Good (bytes_eq word (codes "tail")) (tail_in (number_in rest)) None (λ _. tail_in-is (number_in rest)) tt))))))))
+    (chosen Good (bytes_eq word (codes "tail")) (tail_in (number_in rest)) api (λ _. tail_in-is (number_in rest))
+    (chosen Good (bytes_eq word (codes "api")) (api_in (method_in (first_part rest)) more) http (λ _. api_in-is (method_in (first_part rest)) more)
+    (chosen Good (bytes_eq word (codes "http")) (http_of (decode_of rest)) None (λ _. http_of-is (decode_of rest)) tt))))))))))
 
 command_in-is : (word : List ℕ) (rest : Option (List ℕ)) → Good (command_in word rest)
 command_in-is word None = tt

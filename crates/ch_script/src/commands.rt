@@ -5,6 +5,7 @@ ghost use Rattle.ch_history.specs.Limits.{is_event_name};
 ghost use Rattle.ch_transcript.specs.Commands.{first_part, more_parts, number_in, open_in, say_in, join_of, join_in, sign_in_in, lose_in, tick_in, tail_in, publish_of, publish_on, publish_in, except_in, command_by, command_in};
 
 use crate::parts::{first_part, more_parts, read_number};
+use crate::requests::{read_api, read_http};
 use ch_base::{Memory, Text};
 use ch_names::{event_name, kind};
 use ch_transcript::Command;
@@ -37,6 +38,8 @@ fn read_by(alloc: Global, word: &str, rest: &str) -> Result<Option<Command>, Mem
         "publish" => read_publish(alloc, None, rest),
         "except" => read_except(alloc, rest),
         "tail" => read_tail(alloc, rest),
+        "api" => read_api(alloc, rest),
+        "http" => read_http(alloc, rest),
         _ => Ok(None),
     }
 }

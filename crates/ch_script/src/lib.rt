@@ -7,6 +7,7 @@
 mod commands;
 mod lines;
 mod parts;
+mod requests;
 
 pub use lines::read_line;
 

@@ -10,10 +10,10 @@ use Rattle.ch_protocol.specs.declared.ask.Ask.{Ask}
 use Rattle.ch_session.specs.Kept.{Kept}
 use Rattle.ch_session.specs.Losses.{IsNextUsed, loss_at}
 use Rattle.ch_session.specs.Told.{uses_place}
-use Rattle.ch_socket.specs.Asks.{shards_of, shards_after}
+use Rattle.ch_socket.specs.Asks.{shards_of}
 use Rattle.ch_socket.specs.Sockets.{IsAtShards, IsOpen}
 use Rattle.ch_socket.specs.Turns.{MayTurn}
-use Rattle.ch_transcript.specs.Transcript.{Socket, Shards, calls, user_calls, loses, with_call, with_user_call}
+use Rattle.ch_transcript.specs.Transcript.{Socket, Shards, calls, user_calls, loses, with_call, with_user_call, after_ask}
 
 -- ---- the row
 
@@ -127,7 +127,7 @@ module _ (number at : ℕ) (first s after : Kept) (old bench new : BenchModel) (
 -- one more loss
 pub Losing-next : (number at : ℕ) (first s after : Kept) (old bench new : BenchModel) (ask : Ask) (place : ℕ) → MayTurn number first old
     → Losing number at first s old bench → IsNextUsed s.told.used s.lost (Some place) → ask ≡ loss_at s.chans s.number at place
-    → IsAtShards new (shards_after (shards_of bench) ask) → length new.shards ≡ length bench.shards → length new.users ≡ length bench.users
+    → IsAtShards new (after_ask (shards_of bench) ask) → length new.shards ≡ length bench.shards → length new.users ≡ length bench.users
     → after ≡ record s { lost = place + 1 } → Losing number at first after old new
 Losing-next number at first s after old bench new ask place may kept next is made chan_count user_count moved =
     let P : Kept → Type 0 = λ k. IsNextUsed k.told.used s.lost (Some place) in
@@ -138,9 +138,9 @@ Losing-next number at first s after old bench new ask place may kept next is mad
     let after_is : after ≡ record first { lost = place + 1 } = moved ∙ ap (λ (k : Kept). record k { lost = place + 1 }) kept.same in
     elim (cases_lt place (length old.shards)) [
       | inl below ↦ lost_chan number at first s after old bench new place kept next_first after_is (chan_count ∙ kept.chan_count) (user_count ∙ kept.user_count) below
-          (subst (λ a. IsAtShards new (shards_after (shards_of bench) a)) (loss ∙ cond-true (nat_lt place (length old.shards)) _ _ (lt-ltb place (length old.shards) below)) made)
+          (subst (λ a. IsAtShards new (after_ask (shards_of bench) a)) (loss ∙ cond-true (nat_lt place (length old.shards)) _ _ (lt-ltb place (length old.shards) below)) made)
       | inr above ↦ lost_user number at first s after old bench new place kept next_first after_is (chan_count ∙ kept.chan_count) (user_count ∙ kept.user_count) above
-          (subst (λ a. IsAtShards new (shards_after (shards_of bench) a)) (loss ∙ cond-false (nat_lt place (length old.shards)) _ _ (le-ltb place (length old.shards) above)) made)
+          (subst (λ a. IsAtShards new (after_ask (shards_of bench) a)) (loss ∙ cond-false (nat_lt place (length old.shards)) _ _ (le-ltb place (length old.shards) above)) made)
     ]
 
 -- no loss is left

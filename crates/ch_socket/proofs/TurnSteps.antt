@@ -12,13 +12,13 @@ use Rattle.ch_protocol.specs.declared.heard.Settled.{Settled}
 use Rattle.ch_protocol.specs.declared.heard.Settled.TheVariants as settled
 use Rattle.ch_session.specs.Kept.{Kept, left_after}
 use Rattle.ch_session.specs.Waits.{HoldsData}
-use Rattle.ch_socket.specs.Asks.{MayAsk, Settles, settled_text, made_of, shards_after}
+use Rattle.ch_socket.specs.Asks.{MayAsk, Settles, settled_text}
 use Rattle.ch_socket.specs.Following.{following}
 use Rattle.ch_socket.specs.declared.following.Following.TheVariants.{NextAsk, NoAsk, End}
 use Rattle.ch_socket.proofs.AskSteps.{MayAsk-same}
 use Rattle.ch_socket.specs.Sockets.{IsAtShards, IsOpen, TakesTurn}
 use Rattle.ch_socket.specs.Turns.{Owes}
-use Rattle.ch_transcript.specs.Transcript.{Socket, Shards, Turn, after_turn, writes, ends_turn, asks_all, asks_one, goes_on, settled_socket}
+use Rattle.ch_transcript.specs.Transcript.{Socket, Shards, Turn, after_turn, writes, ends_turn, asks_all, asks_one, goes_on, settled_socket, after_ask, made_of}
 
 -- the asks before the place were made, and the turn is what was written for them and then the turn of the others
 pub record Reaches (asks : List Ask) (number at : ℕ) (user_data : List ℕ) (place : ℕ) (session : Kept) (bench : BenchModel)
@@ -38,7 +38,7 @@ Reaches-start asks number at user_data session bench old s shards socket at_shar
 
 one_is : (number at : ℕ) (user_data : List ℕ) (place : ℕ) (ask : Ask) (s : Socket) (shards : Shards) (more : Socket → Shards → Turn)
     → asks_one number at user_data place ask s shards more
-    ≡ goes_on number at (outcome user_data place (made_of shards ask)) (settled_socket at ask (made_of shards ask) s) (shards_after shards ask) more
+    ≡ goes_on number at (outcome user_data place (made_of shards ask)) (settled_socket at ask (made_of shards ask) s) (after_ask shards ask) more
 one_is number at user_data place (Chan k call) s shards more = refl
 one_is number at user_data place (User k call) s shards more = refl
 
@@ -87,12 +87,12 @@ module _ (asks : List Ask) (number at : ℕ) (user_data : List ℕ) (place : ℕ
   -- what the asks from the place on make, by the next of them
   turn_is : (ask : Ask) (session : Kept) (bench : BenchModel) (new : List ℕ) (result : Settled) → drop place asks ≡ ask ∷ drop (place + 1) asks
       → Settles number at user_data place ask r.s r.shards session bench mid new result
-      → t ≡ after_turn r.text (goes_on number at result (settled_socket at ask (made_of r.shards ask) r.s) (shards_after r.shards ask)
+      → t ≡ after_turn r.text (goes_on number at result (settled_socket at ask (made_of r.shards ask) r.s) (after_ask r.shards ask)
       (asks_all number at user_data (place + 1) (drop (place + 1) asks)))
   turn_is ask session bench new result split x =
       r.rest ∙ ap (λ xs. after_turn r.text (asks_all number at user_data place xs r.s r.shards)) split
       ∙ ap (λ u. after_turn r.text u) (one_is number at user_data place ask r.s r.shards (asks_all number at user_data (place + 1) (drop (place + 1) asks)))
-      ∙ ap (λ o. after_turn r.text (goes_on number at o (settled_socket at ask (made_of r.shards ask) r.s) (shards_after r.shards ask)
+      ∙ ap (λ o. after_turn r.text (goes_on number at o (settled_socket at ask (made_of r.shards ask) r.s) (after_ask r.shards ask)
       (asks_all number at user_data (place + 1) (drop (place + 1) asks)))) (sym x.meaning)
 
   text_is : (ask : Ask) (session : Kept) (bench : BenchModel) (new : List ℕ) (result : Settled)
@@ -104,16 +104,16 @@ module _ (asks : List Ask) (number at : ℕ) (user_data : List ℕ) (place : ℕ
       → Reaches asks number at user_data (place + 1) session bench old new t
   Reaches-next ask session bench new result on split x = record {
     s = settled_socket at ask (made_of r.shards ask) r.s;
-    shards = shards_after r.shards ask;
+    shards = after_ask r.shards ask;
     text = r.text ++ settled_text number result;
     written = text_is ask session bench new result x;
     socket = x.socket;
     at_shards = x.at_shards;
     rest =
         let more = asks_all number at user_data (place + 1) (drop (place + 1) asks) in
-        let later = more (settled_socket at ask (made_of r.shards ask) r.s) (shards_after r.shards ask) in
+        let later = more (settled_socket at ask (made_of r.shards ask) r.s) (after_ask r.shards ask) in
         turn_is ask session bench new result split x
-        ∙ ap (λ u. after_turn r.text u) (next_is number at result (settled_socket at ask (made_of r.shards ask) r.s) (shards_after r.shards ask) more on)
+        ∙ ap (λ u. after_turn r.text u) (next_is number at result (settled_socket at ask (made_of r.shards ask) r.s) (after_ask r.shards ask) more on)
         ∙ ap (λ y. record { text = y; socket = later.socket; shards = later.shards }) (sym (append_assoc r.text (settled_text number result) later.text));
   }
 
@@ -124,7 +124,7 @@ module _ (asks : List Ask) (number at : ℕ) (user_data : List ℕ) (place : ℕ
       let more = asks_all number at user_data (place + 1) (drop (place + 1) asks) in
       subst (λ u. TakesTurn number (Some session) bench old new u)
       (sym (turn_is ask session bench new result split x
-      ∙ ap (λ u. after_turn r.text u) (done_is number at result (settled_socket at ask (made_of r.shards ask) r.s) (shards_after r.shards ask) more none)))
+      ∙ ap (λ u. after_turn r.text u) (done_is number at result (settled_socket at ask (made_of r.shards ask) r.s) (after_ask r.shards ask) more none)))
       (record { text = text_is ask session bench new result x; socket = x.socket; shards = x.at_shards })
 
   pub Reaches-ended : (ask : Ask) (session : Kept) (bench : BenchModel) (new : List ℕ) (result : Settled) → End ≡ following result
@@ -134,11 +134,11 @@ module _ (asks : List Ask) (number at : ℕ) (user_data : List ℕ) (place : ℕ
       let more = asks_all number at user_data (place + 1) (drop (place + 1) asks) in
       subst (λ u. Owes number at session bench old new u)
       (sym (turn_is ask session bench new result split x
-      ∙ ap (λ u. after_turn r.text u) (end_is number at result (settled_socket at ask (made_of r.shards ask) r.s) (shards_after r.shards ask) more end)))
+      ∙ ap (λ u. after_turn r.text u) (end_is number at result (settled_socket at ask (made_of r.shards ask) r.s) (after_ask r.shards ask) more end)))
       (record {
         text = text_is ask session bench new result x;
         s = settled_socket at ask (made_of r.shards ask) r.s;
-        shards = shards_after r.shards ask;
+        shards = after_ask r.shards ask;
         socket = x.socket;
         at_shards = x.at_shards;
         ended = refl;

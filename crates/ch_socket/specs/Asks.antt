@@ -2,22 +2,19 @@
 use Rattle.std.specs.Prelude.{◌≡◌, ◌<◌, ◌++◌, ℕ, List, [], length}
 use Rattle.ch_base.specs.declared.frame.Frame.TheVariants.{Error}
 use Rattle.ch_desk.specs.Bench.{BenchModel, seen, seen_user}
-use Rattle.ch_history.specs.Answers.{answer_of}
 use Rattle.ch_history.specs.Placement.{BelongsTo, UserBelongsTo}
-use Rattle.ch_history.specs.UserAnswers.{user_answer_of}
 use Rattle.ch_history.specs.UserLegal.{IsUserWellFormed}
 use Rattle.ch_history.specs.WellFormed.{IsWellFormed}
 use Rattle.ch_protocol.specs.Sessions.{outcome}
 use Rattle.ch_protocol.specs.declared.ask.Ask.{Ask}
 use Rattle.ch_protocol.specs.declared.ask.Ask.TheVariants.{Chan, User}
 use Rattle.ch_protocol.specs.declared.ask.Made.{Made}
-use Rattle.ch_protocol.specs.declared.ask.Made.TheVariants as made
 use Rattle.ch_protocol.specs.declared.heard.Settled.{Settled}
 use Rattle.ch_protocol.specs.declared.heard.Settled.TheVariants as settled
 use Rattle.ch_session.specs.Kept.{Kept}
 use Rattle.ch_socket.specs.Sockets.{IsAtShards, IsOpen}
 use Rattle.ch_transcript.specs.Printing.{frame_line, end_lines}
-use Rattle.ch_transcript.specs.Transcript.{Socket, Shards, calls, user_calls, settled_socket}
+use Rattle.ch_transcript.specs.Transcript.{Socket, Shards, made_of, after_ask, settled_socket}
 
 -- how far the bench's shards have come
 abbrev pub shards_of : BenchModel → Shards
@@ -28,20 +25,10 @@ abbrev pub MayAsk : BenchModel → Ask → Type 0
 MayAsk bench (Chan shard call) = IsWellFormed call × (shard < length bench.shards) × BelongsTo (shard, length bench.shards) call
 MayAsk bench (User shard call) = IsUserWellFormed call × (shard < length bench.users) × UserBelongsTo (shard, length bench.users) call
 
--- what comes of the ask
-abbrev pub made_of : Shards → Ask → Made
-made_of shards (Chan k call) = made.Chan (answer_of (shards.chans k) 0 call)
-made_of shards (User k call) = made.User (user_answer_of (shards.users k) 0 call)
-
--- the shards after the ask's call was made
-abbrev pub shards_after : Shards → Ask → Shards
-shards_after shards (Chan k call) = calls shards k call
-shards_after shards (User k call) = user_calls shards k call
-
 -- the ask was made: its answer is as it has to be, and its shard has come further by its call
 pub record IsMade (bench : BenchModel) (ask : Ask) (shards : Shards) (answer : Made) : Type 0 where
   pub is : answer ≡ made_of shards ask
-  pub at_shards : IsAtShards bench (shards_after shards ask)
+  pub at_shards : IsAtShards bench (after_ask shards ask)
 
 -- what is written for a settled ask
 abbrev pub settled_text : ℕ → Settled → List ℕ
@@ -57,4 +44,4 @@ pub record Settles (number at : ℕ) (user_data : List ℕ) (place : ℕ) (ask :
   pub meaning : result ≡ outcome user_data place (made_of shards ask)
   pub text : new ≡ old ++ settled_text number result
   pub socket : IsOpen number session (settled_socket at ask (made_of shards ask) s)
-  pub at_shards : IsAtShards bench (shards_after shards ask)
+  pub at_shards : IsAtShards bench (after_ask shards ask)

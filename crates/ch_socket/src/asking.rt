@@ -20,7 +20,7 @@ use ch_session::Session;
 use std::alloc::Global;
 
 /// Makes an ask's call on its shard.
-pub(crate) fn make(bench: &mut Bench, ask: &Ask) -> Result<Made, Memory>
+pub fn make(bench: &mut Bench, ask: &Ask) -> Result<Made, Memory>
     requires { MayAsk bench.old ask.now }
     ensures made { (shards : Shards) → IsAtShards bench.old shards → IfOk result (IsMade bench.new ask.now shards) }
     ensures comes { IfOk result (ComesOf ask.now) }

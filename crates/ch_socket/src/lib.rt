@@ -9,6 +9,7 @@ mod printing;
 mod ticking;
 mod turns;
 
+pub use asking::make;
 pub use hearing::hear;
 pub use losing::lose;
 pub use printing::{START_SECOND, put, put_end, put_error, put_frame};

@@ -1,9 +1,9 @@
 ghost use Rattle.std.specs.Prelude.{◌≡◌, length, OnOk};
 ghost use Rattle.ch_history.specs.Limits.{IsMoment};
-ghost use Rattle.ch_socket.specs.Asks.{MayAsk, shards_after};
+ghost use Rattle.ch_socket.specs.Asks.{MayAsk};
 ghost use Rattle.ch_socket.specs.Sockets.{IsAtShards, IsOpen};
 ghost use Rattle.ch_socket.specs.Turns.{MayTurn};
-ghost use Rattle.ch_transcript.specs.Transcript.{Socket, Shards, loses};
+ghost use Rattle.ch_transcript.specs.Transcript.{Socket, Shards, loses, after_ask};
 
 use crate::asking::make;
 use ch_base::Memory;
@@ -31,7 +31,7 @@ pub fn lose(bench: &mut Bench, session: Session, number: u64, at: u64) -> Result
 /// Makes the call of a loss, whose answer tells nothing more.
 fn make_loss(bench: &mut Bench, ask: Ask) -> Result<(), Memory>
     requires { MayAsk bench.old ask }
-    ensures made { (shards : Shards) → IsAtShards bench.old shards → OnOk result (IsAtShards bench.new (shards_after shards ask)) }
+    ensures made { (shards : Shards) → IsAtShards bench.old shards → OnOk result (IsAtShards bench.new (after_ask shards ask)) }
     ensures chans { length bench.new.shards ≡ length bench.old.shards }
     ensures users { length bench.new.users ≡ length bench.old.users }
 {

@@ -3,13 +3,14 @@ use Rattle.std.proofs.Common.{refl}
 use Rattle.std.specs.Str.{is_utf8, chars}
 use Rattle.std.specs.Char.{encode_utf8}
 use Rattle.std.specs.Fmt.{digits}
+use Rattle.hex.specs.Hex.{decode_pairs}
 use Rattle.ch_base.specs.Escape.{escaped_byte}
 use Rattle.ch_protocol.specs.ErrorTexts.{error_text}
 use Rattle.ch_protocol.specs.Events.{quoted}
 use Rattle.ch_transcript.specs.Examples.{Lines, OnePublish, Excepted}
 
 pub lines : Lines
-unfolding is_utf8 chars encode_utf8 digits
+unfolding is_utf8 chars encode_utf8 digits decode_pairs
 lines = record {
   empty = refl;
   comment = refl;
@@ -23,6 +24,14 @@ lines = record {
   nothing_said = refl;
   joined = refl;
   no_channel = refl;
+  posted = refl;
+  gotten = refl;
+  no_query = refl;
+  other_method = refl;
+  question = refl;
+  bytes = refl;
+  no_bytes = refl;
+  odd = refl;
   excepted = refl;
 }
 

@@ -1,13 +1,17 @@
 -- What a line of a transcript says: a moment, a blank and a command.
-use Rattle.std.specs.Prelude.{ℕ, Bool, ◌&&◌, ◌==◌, ◌≡◌, ◌≤◌, true, List, [], ◌∷◌, bytes_eq, length, nat_le, nat_lt, Option, Some, None, codes, if◌then◌else◌}
-use Rattle.std.specs.List.{before_first, after_first, position_or_len}
+use Rattle.std.specs.Prelude.{ℕ, Bool, ◌&&◌, ◌||◌, ◌==◌, ◌≡◌, ◌≤◌, not, true, List, [], ◌∷◌, bytes_eq, length, nat_le, nat_lt, Option, Some, None, Result, Ok, Err, codes, if◌then◌else◌}
+use Rattle.std.specs.List.{before_first, after_first, position_or_len, list_all}
 use Rattle.std.specs.Str.{is_utf8}
 use Rattle.std.specs.Fmt.{decimal}
 use Rattle.std.specs.Str.Parse.{digits_value}
+use Rattle.hex.specs.Hex.{decode_of}
+use Rattle.hex.specs.declared.error.FromHexError.{FromHexError}
 use Rattle.ch_history.specs.ChannelName.{is_good_name}
 use Rattle.ch_history.specs.Limits.{is_event_name}
 use Rattle.ch_transcript.specs.declared.commands.Command.{Command}
-use Rattle.ch_transcript.specs.declared.commands.Command.TheVariants.{Open, Say, Join, SignIn, Lose, Tick, Publish, Tail}
+use Rattle.ch_transcript.specs.declared.commands.Command.TheVariants.{Open, Say, Join, SignIn, Lose, Tick, Publish, Tail, Api, Http}
+use Rattle.ch_transcript.specs.declared.commands.Method.{Method}
+use Rattle.ch_transcript.specs.declared.commands.Method.TheVariants.{Get, Post}
 use Rattle.ch_transcript.specs.declared.commands.Line.{Line}
 use Rattle.ch_transcript.specs.declared.commands.Line.TheVariants.{Skipped, Timed, Bad}
 
@@ -101,6 +105,49 @@ except_in None rest = None
 except_in (Some number) None = None
 except_in (Some number) (Some rest) = publish_in (Some number) rest
 
+-- ---- requests
+
+abbrev pub method_in : List ℕ → Option Method
+method_in word = if bytes_eq word (codes "GET") then Some Get else if bytes_eq word (codes "POST") then Some Post else None
+
+-- ASCII, but no blank, `#` and `?`
+abbrev pub is_plain_byte : ℕ → Bool
+is_plain_byte b = nat_lt b 128 && not (b == 32 || b == 9 || b == 35 || b == 63)
+
+abbrev pub is_plain : List ℕ → Bool
+is_plain text = list_all is_plain_byte text
+
+-- a dash is no query
+abbrev pub query_in : List ℕ → List ℕ
+query_in query = if bytes_eq query (codes "-") then [] else query
+
+-- what is left out is empty
+abbrev pub or_empty : Option (List ℕ) → List ℕ
+or_empty None = []
+or_empty (Some text) = text
+
+abbrev pub api_of : Option Method → List ℕ → List ℕ → Option (List ℕ) → Option Command
+api_of None path query body = None
+api_of (Some method) path query body =
+    if is_plain path && is_plain query then Some (Api method path (query_in query) (or_empty body)) else None
+
+-- a query, and a body or none
+abbrev pub api_on : Option Method → List ℕ → Option (List ℕ) → Option Command
+api_on method path None = None
+api_on method path (Some more) = api_of method path (first_part more) (more_parts more)
+
+-- a path, a query, and a body or none
+abbrev pub api_in : Option Method → Option (List ℕ) → Option Command
+api_in method None = None
+api_in method (Some more) = api_on method (first_part more) (more_parts more)
+
+-- the bytes that are written in hex
+abbrev pub http_of : Result (List ℕ) FromHexError → Option Command
+http_of (Ok bytes) = Some (Http bytes)
+http_of (Err error) = None
+
+-- ---- all commands
+
 -- the command of this word
 abbrev pub command_by : List ℕ → List ℕ → Option Command
 command_by word rest =
@@ -113,6 +160,8 @@ command_by word rest =
     else if bytes_eq word (codes "publish") then publish_in None rest
     else if bytes_eq word (codes "except") then except_in (number_in (first_part rest)) (more_parts rest)
     else if bytes_eq word (codes "tail") then tail_in (number_in rest)
+    else if bytes_eq word (codes "api") then api_in (method_in (first_part rest)) (more_parts rest)
+    else if bytes_eq word (codes "http") then http_of (decode_of rest)
     else None
 
 -- a word and what follows it; no command is a word alone

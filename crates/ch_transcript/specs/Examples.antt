@@ -3,10 +3,12 @@ use Rattle.std.specs.Prelude.{◌≡◌, ℕ, true, List, [], ◌∷◌, ◌++�
 use Rattle.ch_config.specs.Config.{built_in}
 use Rattle.ch_rate.specs.Quiet.{quiet_from}
 use Rattle.ch_protocol.specs.declared.client_message.ClientMessage.TheVariants.{Subscribe}
+use Rattle.ch_requests.specs.declared.request.Look.TheVariants.{Need}
 use Rattle.ch_transcript.specs.Commands.{line_of}
 use Rattle.ch_transcript.specs.Printing.{line_end}
 use Rattle.ch_transcript.specs.Transcript.{Progress, Played, Sense, Socket, played_as}
-use Rattle.ch_transcript.specs.declared.commands.Command.TheVariants.{Open, Say, Join, Publish, Lose}
+use Rattle.ch_transcript.specs.declared.commands.Command.TheVariants.{Open, Say, Join, Publish, Lose, Api, Http}
+use Rattle.ch_transcript.specs.declared.commands.Method.TheVariants.{Get, Post}
 use Rattle.ch_transcript.specs.declared.commands.Line.{Line}
 use Rattle.ch_transcript.specs.declared.commands.Line.TheVariants.{Skipped, Timed, Bad}
 
@@ -23,6 +25,14 @@ pub record Lines : Type 0 where
   pub nothing_said : line_of (codes "1 say 2") ≡ Bad
   pub joined : line_of (codes "1 join 2 a {} ") ≡ Timed 1 (Join 2 (codes "a") (Some (codes "{} ")))
   pub no_channel : line_of (codes "1 join 2 a!") ≡ Bad
+  pub posted : line_of (codes "1 api POST /p - {} ") ≡ Timed 1 (Api Post (codes "/p") [] (codes "{} "))
+  pub gotten : line_of (codes "1 api GET /p a=1") ≡ Timed 1 (Api Get (codes "/p") (codes "a=1") [])
+  pub no_query : line_of (codes "1 api GET /p") ≡ Bad
+  pub other_method : line_of (codes "1 api PUT /p -") ≡ Bad
+  pub question : line_of (codes "1 api GET /p? -") ≡ Bad
+  pub bytes : line_of (codes "1 http 0aFf") ≡ Timed 1 (Http (10 ∷ 255 ∷ []))
+  pub no_bytes : line_of (codes "1 http ") ≡ Timed 1 (Http [])
+  pub odd : line_of (codes "1 http 0") ≡ Bad
   pub excepted : line_of (codes "1 except 3 a e \"x y\"") ≡ Timed 1 (Publish (codes "a") (codes "e") (codes "\"x y\"") (Some 3))
 
 -- ---- two open sockets
@@ -38,6 +48,8 @@ abbrev pub subscribes : Sense
 subscribes = record {
   reading = record { verdict = Ok (Subscribe (codes "a") None None); member = None; user = None };
   is_string = true;
+  look = Need;
+  events = None;
 }
 
 -- what lines write that mean so, one after another; a line that may not stand ends them

@@ -9,6 +9,7 @@ use Rattle.ch_base.specs.declared.frame.Frame.{Frame}
 use Rattle.ch_base.specs.declared.frame.Frame.TheVariants.{Error}
 use Rattle.ch_history.specs.Entries.{ChanHistory}
 use Rattle.ch_protocol.specs.Printed.{printed}
+use Rattle.ch_requests.specs.declared.reply.Reply.{Reply}
 
 abbrev pub start_second : ℕ
 start_second = 1
@@ -62,9 +63,13 @@ longest_tail = 1024
 abbrev pub tail_line : ChanHistory → List ℕ
 tail_line h = codes "tail " ++ map (λ e. letter_of e.call) (drop (length h - longest_tail) h) ++ line_end
 
--- the line for words that are no call of `replay`
-abbrev pub usage_line : List ℕ
-usage_line = codes "usage: channelsd replay" ++ line_end
+-- the reply to a request
+abbrev pub reply_line : Reply → List ℕ
+reply_line reply = codes "http " ++ decimal reply.status ++ codes " " ++ reply.body ++ line_end
+
+-- more bytes of a request are wanted
+abbrev pub need_line : List ℕ
+need_line = codes "http need" ++ line_end
 
 -- the line that names the nth line, which isn't a transcript line
 abbrev pub error_line : ℕ → List ℕ

@@ -1,5 +1,5 @@
 -- What a replay has read and written, by how it ended.
-use Rattle.std.specs.Prelude.{◌≡◌, ℕ, Bool, false, List, [], ◌∷◌, ◌++◌, ◌⊎◌, take, bytes_eq, codes, Option}
+use Rattle.std.specs.Prelude.{◌≡◌, ℕ, List, ◌++◌, ◌⊎◌, take, Option}
 use Rattle.std.specs.Io.KnownBytes.{Consumes, Appends, IsAtEnd}
 use Rattle.ch_transcript.specs.declared.ending.Ending.{Ending}
 use Rattle.ch_transcript.specs.declared.ending.Ending.TheVariants.{Done, NotALine, LongLine, ReadFailed, WriteFailed, Memory}
@@ -7,12 +7,6 @@ use Rattle.ch_transcript.specs.Lines.{whole_lines}
 use Rattle.ch_transcript.specs.Printing.{error_line, long_line}
 use Rattle.ch_config.specs.declared.config.Config.{Config}
 use Rattle.ch_transcript.specs.Transcript.{HasOutcome, ends}
-
--- the words ask for a replay: they are `replay` alone
-abbrev pub is_replay : List (List ℕ) → Bool
-is_replay [] = false
-is_replay (word ∷ []) = bytes_eq word (codes "replay")
-is_replay (word ∷ other ∷ words) = false
 
 abbrev pub IsPrefix : List ℕ → List ℕ → Type 0
 IsPrefix xs ys = (more : List ℕ) × (ys ≡ xs ++ more)

@@ -33,14 +33,25 @@ use Rattle.ch_protocol.specs.declared.heard.Heard.{Heard}
 use Rattle.ch_protocol.specs.declared.heard.Heard.TheVariants as heard
 use Rattle.ch_protocol.specs.declared.heard.Settled.{Settled}
 use Rattle.ch_protocol.specs.declared.heard.Settled.TheVariants as settled
+use Rattle.ch_requests.specs.Authorization.{is_authorized}
+use Rattle.ch_requests.specs.Plans.{planned}
+use Rattle.ch_requests.specs.Replies.{refusal, reply_to}
+use Rattle.ch_requests.specs.Triggers.{ReadsBody}
+use Rattle.ch_requests.specs.Verdict.{IsVerdict}
+use Rattle.ch_requests.specs.declared.plan.Planned.{Planned}
+use Rattle.ch_requests.specs.declared.plan.Planned.TheVariants.{Answer, Ask as AskPlan}
+use Rattle.ch_requests.specs.declared.request.Look.{Look}
+use Rattle.ch_requests.specs.declared.request.Look.TheVariants.{Need, Upgrade, Ready, Refuse}
+use Rattle.ch_requests.specs.declared.trigger.Trigger.{Trigger}
 use Rattle.ch_transcript.specs.declared.commands.Command.{Command}
-use Rattle.ch_transcript.specs.declared.commands.Command.TheVariants.{Open, Say, Join, SignIn as SignInCommand, Lose, Tick, Publish, Tail}
+use Rattle.ch_transcript.specs.declared.commands.Command.TheVariants.{Open, Say, Join, SignIn as SignInCommand, Lose, Tick, Publish, Tail, Api, Http}
 use Rattle.ch_transcript.specs.declared.commands.Line.{Line}
 use Rattle.ch_transcript.specs.declared.commands.Line.TheVariants.{Skipped, Timed, Bad}
 use Rattle.ch_transcript.specs.Lines.{longest_line, lines_of}
 use Rattle.ch_transcript.specs.Commands.{line_of}
 use Rattle.ch_transcript.specs.Joining.{join_text, sign_in_text}
-use Rattle.ch_transcript.specs.Printing.{start_second, frame_line, end_lines, sent_line, tail_line, error_line, long_line}
+use Rattle.ch_transcript.specs.Requests.{api_bytes}
+use Rattle.ch_transcript.specs.Printing.{start_second, frame_line, end_lines, sent_line, tail_line, reply_line, need_line, error_line, long_line}
 
 -- ---- how far a transcript has come
 
@@ -94,6 +105,25 @@ user_calls shards k call = record {
   chans = shards.chans;
   users = λ j. if j == k then with_user_call (shards.users k) call else shards.users j;
 }
+
+-- what comes of an ask
+abbrev pub made_of : Shards → Ask → Made
+made_of shards (Chan k call) = made.Chan (answer_of (shards.chans k) 0 call)
+made_of shards (User k call) = made.User (user_answer_of (shards.users k) 0 call)
+
+-- the ask's call is made
+abbrev pub after_ask : Shards → Ask → Shards
+after_ask shards (Chan k call) = calls shards k call
+after_ask shards (User k call) = user_calls shards k call
+
+-- what comes of asks that are made one after another
+abbrev pub made_of_all : Shards → List Ask → List Made
+made_of_all shards [] = []
+made_of_all shards (ask ∷ asks) = made_of shards ask ∷ made_of_all (after_ask shards ask) asks
+
+abbrev pub after_asks : Shards → List Ask → Shards
+after_asks shards [] = shards
+after_asks shards (ask ∷ asks) = after_asks (after_ask shards ask) asks
 
 -- ---- one socket's turn
 
@@ -150,12 +180,9 @@ goes_on number at (settled.End code) s shards more = ends_with code number at s 
 -- an ask's call is made on its shard, and the ask is settled with the answer; user_data: those of the
 -- message that is a sign-in
 abbrev pub asks_one : ℕ → ℕ → List ℕ → ℕ → Ask → Socket → Shards → (Socket → Shards → Turn) → Turn
-asks_one number at user_data place (Chan k call) s shards more =
-    goes_on number at (outcome user_data place (made.Chan (answer_of (shards.chans k) 0 call)))
-    (settled_socket at (Chan k call) (made.Chan (answer_of (shards.chans k) 0 call)) s) (calls shards k call) more
-asks_one number at user_data place (User k call) s shards more =
-    goes_on number at (outcome user_data place (made.User (user_answer_of (shards.users k) 0 call)))
-    (settled_socket at (User k call) (made.User (user_answer_of (shards.users k) 0 call)) s) (user_calls shards k call) more
+asks_one number at user_data place ask s shards more =
+    goes_on number at (outcome user_data place (made_of shards ask))
+    (settled_socket at ask (made_of shards ask) s) (after_ask shards ask) more
 
 -- the asks from a place on are made one after another
 abbrev pub asks_all : ℕ → ℕ → List ℕ → ℕ → List Ask → Socket → Shards → Turn
@@ -283,10 +310,50 @@ abbrev pub tails : Config → Progress → ℕ → Option Played
 tails config p k =
     if nat_lt k config.chan_shards then Some (record { text = tail_line (p.shards.chans k); next = p }) else None
 
--- What a command's free text means: how the text that a socket says is read, and whether a body is a JSON string.
+-- ---- requests
+
+-- what a request writes, and how the shards are then
+pub record Exchange : Type 0 where
+  pub text : List ℕ
+  pub shards : Shards
+
+-- a request is refused, or its calls are made one after another and answered
+abbrev pub answers : Shards → Planned → Exchange
+answers shards (Answer reply) = record { text = reply_line reply; shards = shards }
+answers shards (AskPlan plan) =
+    record { text = reply_line (reply_to plan (made_of_all shards plan.asks)); shards = after_asks shards plan.asks }
+
+-- What the bytes of a request write that are this, and whose body triggers these events, or has a fault. A handshake may not
+-- stand here.
+abbrev pub exchanges : Config → ℕ → Look → Option (List Trigger) → Shards → Option Exchange
+exchanges config at Need ts shards = Some (record { text = need_line; shards = shards })
+exchanges config at (Upgrade head) ts shards = None
+exchanges config at (Ready q) ts shards = Some (answers shards (planned config start_second q at ts))
+exchanges config at (Refuse status) ts shards = Some (record { text = reply_line (refusal status); shards = shards })
+
+abbrev pub of_exchange : Progress → Option Exchange → Option Played
+of_exchange p None = None
+of_exchange p (Some x) = Some (record { text = x.text; next = record { at = p.at; sockets = p.sockets; shards = x.shards } })
+
+-- the body of an authorized request is read so
+abbrev pub ReadsRequest : Config → ℕ → Look → Option (List Trigger) → Type 0
+ReadsRequest config at (Ready q) ts = MatchBool (is_authorized config q at) (ReadsBody q.route q.body ts) (Unit {0})
+ReadsRequest config at _ ts = Unit {0}
+
+-- the bytes are this, and the body of their request is read so; no time is over
+pub record Comes (config : Config) (at : ℕ) (bytes : List ℕ) (look : Look) (ts : Option (List Trigger)) : Type 0 where
+  pub verdict : IsVerdict config.app_id bytes false look
+  pub body : ReadsRequest config at look ts
+
+-- ---- senses
+
+-- What a command's free text means: how the text that a socket says is read, whether a body is a JSON string, what the bytes
+-- of a request are, and which events its body triggers.
 pub record Sense : Type 0 where
   pub reading : Reading
   pub is_string : Bool
+  pub look : Look
+  pub events : Option (List Trigger)
 
 -- a text that an open connection hears is read so
 abbrev pub Hears : Progress → ℕ → List ℕ → Reading → Type 0
@@ -295,13 +362,15 @@ Hears p number text r = MatchBool (is_live p.sockets number) (Reads text r) (Uni
 abbrev pub IsJudged : List ℕ → Bool → Type 0
 IsJudged body is_string = MatchBool is_string (IsJsonString body) (IsJsonString body → ⊥)
 
--- the command means this
-abbrev pub Means : Config → Progress → Command → Sense → Type 0
-Means config p (Say number text) s = Hears p number text s.reading
-Means config p (Join number channel channel_data) s = Hears p number (join_text config number channel channel_data) s.reading
-Means config p (SignInCommand number user_data) s = Hears p number (sign_in_text config number user_data) s.reading
-Means config p (Publish channel event body except) s = IsJudged body s.is_string
-Means config p _ s = Unit {0}
+-- the command means this at the moment
+abbrev pub Means : Config → Progress → ℕ → Command → Sense → Type 0
+Means config p at (Say number text) s = Hears p number text s.reading
+Means config p at (Join number channel channel_data) s = Hears p number (join_text config number channel channel_data) s.reading
+Means config p at (SignInCommand number user_data) s = Hears p number (sign_in_text config number user_data) s.reading
+Means config p at (Publish channel event body except) s = IsJudged body s.is_string
+Means config p at (Api method path query body) s = Comes config at (api_bytes config at method path query body) s.look s.events
+Means config p at (Http bytes) s = Comes config at bytes s.look s.events
+Means config p at _ s = Unit {0}
 
 -- what a command writes of its own at the moment; none where it may not stand here
 abbrev pub obeyed : Config → Progress → ℕ → Command → Sense → Option Played
@@ -314,6 +383,8 @@ obeyed config p at (Tick number) s = of_socket p number (ticks number at)
 obeyed config p at (Publish channel event body except) s =
     if s.is_string && may_except p except then Some (publishes config p at channel event body except) else None
 obeyed config p at (Tail k) s = tails config p k
+obeyed config p at (Api method path query body) s = of_exchange p (exchanges config at s.look s.events p.shards)
+obeyed config p at (Http bytes) s = of_exchange p (exchanges config at s.look s.events p.shards)
 
 -- ---- rounds
 
@@ -414,7 +485,7 @@ played_as config p (Timed at command) s =
 played_as config p Bad s = None
 
 abbrev pub MeansAs : Config → Progress → Line → Sense → Type 0
-MeansAs config p (Timed at command) s = MatchBool (nat_le p.at at) (Means config (at_moment at p) command s) (Unit {0})
+MeansAs config p (Timed at command) s = MatchBool (nat_le p.at at) (Means config (at_moment at p) at command s) (Unit {0})
 MeansAs config p _ s = Unit {0}
 
 -- what the line writes; none where it is no transcript line here

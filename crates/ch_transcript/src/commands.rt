@@ -1,4 +1,11 @@
-use ch_base::Text;
+use ch_base::{Bytes, Text};
+
+/// The method of a request (RFC 9110, section 9).
+#[derive(Clone, Copy, Debug, PartialEq, Eq)]
+pub enum Method {
+    Get,
+    Post,
+}
 
 /// What a line of a transcript asks for. Sockets are known by their numbers: the nth line that opens a
 /// connection is that of socket n.
@@ -42,6 +49,18 @@ pub enum Command {
     /// The last calls on the channel shard with this number are shown.
     Tail {
         shard: u64,
+    },
+    /// The app's back end sends a request, rightly signed. The path and the query are ASCII without a blank, `#` and
+    /// `?`; the query is empty where there is none.
+    Api {
+        method: Method,
+        path: Text,
+        query: Text,
+        body: Text,
+    },
+    /// These bytes come as a request.
+    Http {
+        bytes: Bytes,
     },
 }
 

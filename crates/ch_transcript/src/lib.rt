@@ -9,6 +9,6 @@ mod commands;
 mod ending;
 mod examples;
 
-pub use commands::{Command, Line};
+pub use commands::{Command, Line, Method};
 pub use ending::Ending;
 pub use examples::examples_hold;
