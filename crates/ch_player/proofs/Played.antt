@@ -9,15 +9,20 @@ use Rattle.ch_player.specs.Rounding.{RunsRounds}
 use Rattle.ch_protocol.specs.Readings.{Reading, Reads}
 use Rattle.ch_protocol.specs.Targets.{target_refusal}
 use Rattle.ch_transcript.specs.Printing.{tail_line}
+use Rattle.ch_requests.specs.declared.request.Look.{Look}
+use Rattle.ch_requests.specs.declared.request.Look.TheVariants.{Need}
+use Rattle.ch_requests.specs.declared.trigger.Trigger.{Trigger}
 use Rattle.ch_transcript.specs.Joining.{join_text, sign_in_text}
-use Rattle.ch_transcript.specs.Transcript.{Progress, Played, Socket, Shards, Turn, Sense, Hears, Means, has_socket, is_live, socket_of, of_socket, takes_turn, quietly, tails, ticks, ends_turn, opens, greeting, most_opened, publishes, obeyed, rounded, rounds, at_moment}
+use Rattle.ch_transcript.specs.Requests.{api_bytes}
+use Rattle.ch_transcript.specs.Transcript.{Progress, Played, Socket, Shards, Turn, Sense, Hears, Means, has_socket, is_live, socket_of, of_socket, takes_turn, quietly, tails, ticks, ends_turn, opens, greeting, most_opened, publishes, obeyed, rounded, rounds, at_moment, Comes, of_exchange}
 use Rattle.ch_transcript.specs.declared.commands.Command.{Command}
-use Rattle.ch_transcript.specs.declared.commands.Command.TheVariants.{Open, Say, Join, SignIn, Lose, Tick, Publish, Tail}
+use Rattle.ch_transcript.specs.declared.commands.Command.TheVariants.{Open, Say, Join, SignIn, Lose, Tick, Publish, Tail, Api, Http}
+use Rattle.ch_transcript.specs.declared.commands.Method.{Method}
 use Rattle.ch_transcript.specs.declared.commands.Line.{Line}
 use Rattle.ch_transcript.specs.declared.commands.Line.TheVariants.{Skipped, Timed, Bad}
 use Rattle.ch_player.specs.Seats.{AreSeats}
 use Rattle.ch_player.specs.Playing.{PlaysAs, IsRefused, PlaysLine, RunsOn}
-use Rattle.ch_player.specs.Steps.{TurnOf, HearsOf, Obeys, ObeysWhole, Publishes, MayPublish, new_socket}
+use Rattle.ch_player.specs.Steps.{TurnOf, HearsOf, Obeys, ObeysWhole, Publishes, MayPublish, ExchangesOf, new_socket}
 use Rattle.ch_player.specs.declared.player.Player.{Player}
 use Rattle.ch_player.specs.declared.seat.Seat.{Seat}
 use Rattle.ch_player.specs.declared.line_fault.LineFault.{LineFault}
@@ -49,10 +54,13 @@ abbrev pub no_reading : Reading
 no_reading = record { verdict = Err 0; member = None; user = None }
 
 abbrev pub read_as : Reading → Sense
-read_as r = record { reading = r; is_string = false }
+read_as r = record { reading = r; is_string = false; look = Need; events = None }
 
 abbrev pub judged_as : Bool → Sense
-judged_as b = record { reading = no_reading; is_string = b }
+judged_as b = record { reading = no_reading; is_string = b; look = Need; events = None }
+
+abbrev pub looked_as : Look → Option (List Trigger) → Sense
+looked_as look events = record { reading = no_reading; is_string = false; look = look; events = events }
 
 -- ---- sockets
 
@@ -151,6 +159,18 @@ pub obeys_tail : (config : Config) (p : Progress) (at : ℕ) (command : Command)
     → (x : Option Played) → x ≡ tails config p k → Obeys config p at command x
 obeys_tail config p at command k is x h = subst (Of config p at x) (sym is) (read_as no_reading, tt, h)
 
+pub obeys_api : (config : Config) (p : Progress) (at : ℕ) (command : Command) (method : Method) (path query body bytes : List ℕ) → command ≡ Api method path query body
+    → bytes ≡ api_bytes config at method path query body → (x : Option Played) → ExchangesOf config p at bytes x → Obeys config p at command x
+obeys_api config p at command method path query body bytes is same x (e, (look, events, comes, f), h) =
+    subst (Of config p at x) (sym is)
+    (looked_as look events, subst (λ z. Comes config at z look events) same comes, h ∙ ap (of_exchange p) f)
+
+pub obeys_http : (config : Config) (p : Progress) (at : ℕ) (command : Command) (bytes slice : List ℕ) → command ≡ Http bytes
+    → slice ≡ bytes → (x : Option Played) → ExchangesOf config p at slice x → Obeys config p at command x
+obeys_http config p at command bytes slice is same x (e, (look, events, comes, f), h) =
+    subst (Of config p at x) (sym is)
+    (looked_as look events, subst (λ z. Comes config at z look events) same comes, h ∙ ap (of_exchange p) f)
+
 -- ---- lines
 
 -- a command, and the rounds after it
@@ -181,7 +201,7 @@ pub timed_is : (config : Config) (p : Progress) (at : ℕ) (command : Command) �
 timed_is config p at command later x h =
     let later_is : nat_le p.at at ≡ true = grind (arith, nat_tests) in (
       h.0,
-      subst (λ t. MatchBool t (Means config (at_moment at p) command h.0) (Unit {0})) (sym later_is) h.1,
+      subst (λ t. MatchBool t (Means config (at_moment at p) at command h.0) (Unit {0})) (sym later_is) h.1,
       h.2 ∙ sym (ap (λ t. cond t (rounded config (obeyed config (at_moment at p) at command h.0)) None) later_is),
     )
 
@@ -190,7 +210,7 @@ pub timed_none : (config : Config) (p : Progress) (at : ℕ) (command : Command)
 timed_none config p at command before =
     let earlier : nat_le p.at at ≡ false = grind (arith, nat_tests) in (
       read_as no_reading,
-      subst (λ t. MatchBool t (Means config (at_moment at p) command (read_as no_reading)) (Unit {0})) (sym earlier) tt,
+      subst (λ t. MatchBool t (Means config (at_moment at p) at command (read_as no_reading)) (Unit {0})) (sym earlier) tt,
       sym (ap (λ t. cond t (rounded config (obeyed config (at_moment at p) at command (read_as no_reading))) None) earlier),
     )
 

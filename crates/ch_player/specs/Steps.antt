@@ -8,8 +8,9 @@ use Rattle.ch_base.specs.declared.channel.ChanCall.{ChanCall}
 use Rattle.ch_base.specs.declared.channel.ChanAnswer.{ChanAnswer}
 use Rattle.ch_desk.specs.Bench.{BenchModel}
 use Rattle.ch_history.specs.Answers.{answer_of}
+use Rattle.ch_backend.specs.Exchanges.{IsExchange}
 use Rattle.ch_socket.specs.Sockets.{IsSocketOf, IsAtShards}
-use Rattle.ch_transcript.specs.Transcript.{Progress, Played, Socket, Shards, Turn, Sense, Hears, Means, hears, of_socket, obeyed, rounded, greeting, is_accepted, IsJudged, may_except, publishes, calls}
+use Rattle.ch_transcript.specs.Transcript.{Progress, Played, Socket, Shards, Turn, Sense, Hears, Means, hears, of_socket, obeyed, rounded, greeting, is_accepted, IsJudged, may_except, publishes, calls, Exchange, of_exchange}
 use Rattle.ch_transcript.specs.declared.commands.Command.{Command}
 
 -- the socket as it is opened, or refused
@@ -31,18 +32,22 @@ HearsOf config p at number text x = (r : Reading) × Hears p number text r × (x
 
 -- what a command writes of its own
 abbrev pub Obeys : Config → Progress → ℕ → Command → Option Played → Type 0
-Obeys config p at command x = (s : Sense) × Means config p command s × (x ≡ obeyed config p at command s)
+Obeys config p at command x = (s : Sense) × Means config p at command s × (x ≡ obeyed config p at command s)
 
 -- and with the rounds after it
 abbrev pub ObeysWhole : Config → Progress → ℕ → Command → Option Played → Type 0
 ObeysWhole config p at command x =
-    (s : Sense) × Means config p command s × (x ≡ rounded config (obeyed config p at command s))
+    (s : Sense) × Means config p at command s × (x ≡ rounded config (obeyed config p at command s))
 
 -- what a Publish writes; none where its body is no JSON string, or the excepted socket isn't there
 abbrev pub Publishes : Config → Progress → ℕ → List ℕ → List ℕ → List ℕ → Option ℕ → Option Played → Type 0
 Publishes config p at channel event body except x =
     (is_string : Bool) × IsJudged body is_string
     × (x ≡ (if is_string && may_except p except then Some (publishes config p at channel event body except) else None))
+
+-- what the bytes of a request write; none where they ask for a WebSocket
+abbrev pub ExchangesOf : Config → Progress → ℕ → List ℕ → Option Played → Type 0
+ExchangesOf config p at bytes x = (e : Option Exchange) × IsExchange config at bytes p.shards e × (x ≡ of_exchange p e)
 
 -- whether a Publish may stand: its body is a JSON string, and the excepted socket is there
 abbrev pub MayPublish : Progress → List ℕ → Option ℕ → Bool → Type 0

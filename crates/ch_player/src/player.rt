@@ -1,4 +1,4 @@
-ghost use Rattle.std.specs.Prelude.{◌≡◌, ◌≤◌, ◌+◌, true, IfOk, OnOk, MatchResult, [], length};
+ghost use Rattle.std.specs.Prelude.{◌≡◌, ◌≤◌, ◌+◌, ℕ, List, true, IfOk, OnOk, MatchResult, [], length};
 ghost use Rattle.std.specs.Prelude.{Some};
 ghost use Rattle.ch_base.specs.JsonText.{IsJsonString};
 ghost use Rattle.ch_config.specs.Config.{IsConfig};
@@ -16,6 +16,7 @@ use crate::publishing::{ask_publish, publish_call};
 use crate::rounds::rounds;
 use crate::seat::Seat;
 use crate::seats::{add_session, has_socket, put_session, take_session};
+use ch_backend::{RequestFault, api_request, exchange};
 use ch_base::{Memory, Text};
 use ch_config::Config;
 use ch_desk::Bench;
@@ -45,7 +46,7 @@ pub struct Player {
 impl Player {
     ghost use Rattle.ch_player.specs.Playing.{IsAt, IsSound, PlaysAs, IsRefused, PlaysLine, RunsOn, config_of};
     ghost use Rattle.ch_transcript.specs.declared.commands.Line.{Line};
-    ghost use Rattle.ch_player.specs.Steps.{TurnOf, HearsOf, Obeys, ObeysWhole, Publishes, MayPublish};
+    ghost use Rattle.ch_player.specs.Steps.{TurnOf, HearsOf, Obeys, ObeysWhole, Publishes, MayPublish, ExchangesOf};
 
     /// A player that is at the beginning of a transcript.
     pub fn new(alloc: Global, config: Config) -> Result<Player, Memory>
@@ -181,7 +182,7 @@ impl Player {
                 let text = sign_in_text(self.alloc, &self.config, *number, user_data)?;
                 self.hear(at, *number, &text, out)
             }
-            Command::Lose { number } => self.lose(at, *number, out),
+            Command::Lose { number } => self.lose(at, *number),
             Command::Tick { number } => self.tick(at, *number, out),
             Command::Publish {
                 channel,
@@ -190,6 +191,16 @@ impl Player {
                 except,
             } => self.publish(at, channel, event, body, *except, out),
             Command::Tail { shard } => self.tail(*shard, out),
+            Command::Api {
+                method,
+                path,
+                query,
+                body,
+            } => {
+                let bytes = api_request(self.alloc, &self.config, at, *method, path, query, body)?;
+                self.exchange(at, bytes.as_slice(), out)
+            }
+            Command::Http { bytes } => self.exchange(at, bytes.as_slice(), out),
         }
     }
 
@@ -266,16 +277,15 @@ impl Player {
         Ok(())
     }
 
-    fn lose(&mut self, at: u64, number: u64, out: &mut Vec<u8>) -> Result<(), LineFault>
+    fn lose(&mut self, at: u64, number: u64) -> Result<(), LineFault>
         requires sound { IsSound self.old }
         requires moment { at ≤ latest_moment }
-        ensures loses { (p : Progress) → IsAt self.old p → MatchResult result
-            (λ _. PlaysAs self.new out.old.items out.new.items (TurnOf p number (ends_turn [] number at)))
+        ensures loses { (p : Progress) (wrote : List ℕ) → IsAt self.old p → MatchResult result
+            (λ _. PlaysAs self.new wrote wrote (TurnOf p number (ends_turn [] number at)))
             (λ fault. IsRefused fault (TurnOf p number (ends_turn [] number at))) }
         ensures sound { OnOk result (IsSound self.new) }
         ensures over { config_of self.new ≡ config_of self.old }
     {
-        let _ = out;
         if !has_socket(self.seats.as_slice(), number) {
             return Err(LineFault::NotALine);
         }
@@ -353,6 +363,23 @@ impl Player {
         match except {
             Some(number) => has_socket(self.seats.as_slice(), number),
             None => true,
+        }
+    }
+
+    /// Does what the bytes of a request ask for.
+    fn exchange(&mut self, at: u64, bytes: &[u8], out: &mut Vec<u8>) -> Result<(), LineFault>
+        requires sound { IsSound self.old }
+        requires moment { at ≤ latest_moment }
+        ensures exchanges { (p : Progress) → IsAt self.old p → MatchResult result
+            (λ _. PlaysAs self.new out.old.items out.new.items (ExchangesOf (config_of self.old) p at bytes.now))
+            (λ fault. IsRefused fault (ExchangesOf (config_of self.old) p at bytes.now)) }
+        ensures sound { OnOk result (IsSound self.new) }
+        ensures over { config_of self.new ≡ config_of self.old }
+    {
+        match exchange(self.alloc, &self.config, &mut self.bench, bytes, at, out) {
+            Ok(()) => Ok(()),
+            Err(RequestFault::Handshake) => Err(LineFault::NotALine),
+            Err(RequestFault::Memory) => Err(LineFault::Memory),
         }
     }
 

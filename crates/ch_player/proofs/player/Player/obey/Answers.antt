@@ -1,7 +1,7 @@
 use Rattle.std.proofs.Common.{◌∙◌, ap}
 use Rattle.ch_transcript.specs.Joining.{join_text}
 use Rattle.ch_player.specs.Steps.{Obeys}
-use Rattle.ch_player.proofs.Played.{answer_map, obeys_open, obeys_say, obeys_join, obeys_sign_in, obeys_lose, obeys_tick, obeys_publish, obeys_tail}
+use Rattle.ch_player.proofs.Played.{answer_map, obeys_open, obeys_say, obeys_join, obeys_sign_in, obeys_lose, obeys_tick, obeys_publish, obeys_tail, obeys_api, obeys_http}
 use Rattle.ch_player.proofs.player.Player.obey.Goals as goal
 
 pub returns-in-Open-clause-obeys : goal.returns-in-Open-clause-obeys
@@ -16,8 +16,8 @@ returns-in-Say-clause-obeys c = λ p is.
 
 pub returns-in-Lose-clause-obeys : goal.returns-in-Lose-clause-obeys
 returns-in-Lose-clause-obeys c = λ p is.
-    answer_map c.lose.result c.lose.new.self c.args.out.now.items c.lose.new.out.items _ (Obeys c.args.self.now.config p c.args.at c.args.command.now)
-    (obeys_lose c.args.self.now.config p c.args.at c.args.command.now c.in-Lose.number c.in-Lose.is) (c.lose.ensures.loses p is)
+    answer_map c.lose.result c.lose.new.self c.args.out.now.items c.args.out.now.items _ (Obeys c.args.self.now.config p c.args.at c.args.command.now)
+    (obeys_lose c.args.self.now.config p c.args.at c.args.command.now c.in-Lose.number c.in-Lose.is) (c.lose.ensures.loses p c.args.out.now.items is)
 
 pub returns-in-Tick-clause-obeys : goal.returns-in-Tick-clause-obeys
 returns-in-Tick-clause-obeys c = λ p is.
@@ -44,3 +44,14 @@ pub returns-in_ok-text-in-SignIn-clause-obeys : goal.returns-in_ok-text-in-SignI
 returns-in_ok-text-in-SignIn-clause-obeys c = λ p is.
     answer_map c.hear-in-SignIn.result c.hear-in-SignIn.new.self c.args.out.now.items c.hear-in-SignIn.new.out.items _ (Obeys c.args.self.now.config p c.args.at c.args.command.now)
     (obeys_sign_in c.args.self.now.config p c.args.at c.args.command.now c.in-SignIn.number c.in-SignIn.user_data c.in_ok-text-in-SignIn.text c.in-SignIn.is c.in_ok-text-in-SignIn.ensures) (c.hear-in-SignIn.ensures.hears p is)
+
+pub returns-in_ok-bytes-in-Api-clause-obeys : goal.returns-in_ok-bytes-in-Api-clause-obeys
+returns-in_ok-bytes-in-Api-clause-obeys c = λ p is.
+    answer_map c.exchange.result c.exchange.new.self c.args.out.now.items c.exchange.new.out.items _ (Obeys c.args.self.now.config p c.args.at c.args.command.now)
+    (obeys_api c.args.self.now.config p c.args.at c.args.command.now c.in-Api.method c.in-Api.path c.in-Api.query c.in-Api.body c.as_slice.result.now c.in-Api.is
+    (c.as_slice.ensures ∙ c.in_ok-bytes-in-Api.ensures)) (c.exchange.ensures.exchanges p is)
+
+pub returns-in-Http-clause-obeys : goal.returns-in-Http-clause-obeys
+returns-in-Http-clause-obeys c = λ p is.
+    answer_map c.exchange-in-Http.result c.exchange-in-Http.new.self c.args.out.now.items c.exchange-in-Http.new.out.items _ (Obeys c.args.self.now.config p c.args.at c.args.command.now)
+    (obeys_http c.args.self.now.config p c.args.at c.args.command.now c.in-Http.bytes c.as_slice-in-Http.result.now c.in-Http.is c.as_slice-in-Http.ensures) (c.exchange-in-Http.ensures.exchanges p is)

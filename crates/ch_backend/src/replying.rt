@@ -1,0 +1,44 @@
+ghost use Rattle.std.specs.Prelude.{◌≡◌, ◌++◌, IfOk, OnOk, codes, string_bytes};
+ghost use Rattle.std.specs.Fmt.{decimal};
+ghost use Rattle.ch_requests.specs.Replies.{refusal};
+ghost use Rattle.ch_transcript.specs.Printing.{reply_line, need_line};
+
+use ch_api::refusal;
+use ch_base::Memory;
+use ch_requests::Reply;
+use std::alloc::Global;
+
+/// Adds the line of a reply: `http <status> <body>`.
+pub fn put_reply(alloc: Global, out: &mut Vec<u8>, reply: &Reply) -> Result<(), Memory>
+    ensures { OnOk result (out.new.items ≡ out.old.items ++ reply_line reply.now) }
+{
+    let front = front(alloc, reply.status)?;
+    out.extend_from_slice(front.as_bytes())?;
+    out.extend_from_slice(reply.body.as_slice())?;
+    out.push(b'\n')?;
+    Ok(())
+}
+
+/// What stands before the body.
+fn front(alloc: Global, status: u16) -> Result<String, Memory>
+    ensures { IfOk result (λ front. string_bytes front ≡ codes "http " ++ decimal status ++ codes " ") }
+{
+    let front = format!(in alloc; "http {status} ")?;
+    Ok(front)
+}
+
+/// Adds the line of the refusal with this status.
+pub fn put_refusal(alloc: Global, out: &mut Vec<u8>, status: u16) -> Result<(), Memory>
+    ensures { OnOk result (out.new.items ≡ out.old.items ++ reply_line (refusal status)) }
+{
+    let reply = refusal(alloc, status)?;
+    put_reply(alloc, out, &reply)
+}
+
+/// Adds the line that tells that more bytes are wanted.
+pub fn put_need(out: &mut Vec<u8>) -> Result<(), Memory>
+    ensures { OnOk result (out.new.items ≡ out.old.items ++ need_line) }
+{
+    out.extend_from_slice(b"http need\n")?;
+    Ok(())
+}
