@@ -1,2 +1,4 @@
+pub mod GivenLemmas
+pub mod PlayableLemmas
 pub mod Reading
 pub mod Running

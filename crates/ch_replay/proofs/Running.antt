@@ -252,6 +252,11 @@ Runs-smaller {pending} {line} {new} reads = omega (arith, reads.limit, ap length
 pub nothing_ran : (config : Config) (left told : Option (List ℕ)) (failed : Type 0) → Ran config left left told told failed ending.Memory
 nothing_ran config left told failed = out_of_memory left left told told [] (Carries-begin config) (Consumes-none left) (Appends-none told)
 
+-- nothing was read or written
+pub nothing_ran_on : (config : Config) (left told_old told_new : Option (List ℕ)) (failed : Type 0) → told_new ≡ told_old → Ran config left left told_old told_new failed ending.Memory
+nothing_ran_on config left told_old told_new failed same =
+    let P : Option (List ℕ) → Type 0 = λ told. Ran config left left told_old told failed ending.Memory in subst P (sym same) (nothing_ran config left told_old failed)
+
 -- a line that isn't served is no failed read
 pub no_read_failed : (told_old told_new : Option (List ℕ)) (Is : Option Played → Type 0) (e result : Ending) → (result ≡ e) ⊎ (result ≡ ending.Memory) → Stops e told_old told_new Is
     → result ≡ ending.ReadFailed → ⊥

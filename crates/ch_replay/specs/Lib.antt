@@ -1,2 +1,5 @@
+pub mod ConfigLines
+pub mod Playable
 pub mod Reading
 pub mod Serving
+pub mod Words

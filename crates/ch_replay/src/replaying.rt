@@ -1,34 +1,38 @@
-ghost use Rattle.std.specs.Prelude.{◌≡◌, ◌≤◌, ◌^◌, ◌↔◌, true, false, MatchResult, IfOk, OnOk, ◌⊎◌};
+ghost use Rattle.std.specs.Prelude.{◌≡◌, ◌≤◌, ◌^◌, ◌↔◌, true, false, MatchResult, IfOk, IfErr, IsErr, IfSome, OnOk, ◌⊎◌};
+ghost use Rattle.std.specs.Option.{option_copied};
 ghost use Rattle.ch_io.specs.Counts.{Rose};
-ghost use Rattle.ch_transcript.specs.Printing.{usage_line};
-ghost use Rattle.ch_transcript.specs.Replayed.{Ran, WritesLast, is_replay, status_of};
+ghost use Rattle.ch_transcript.specs.Replayed.{Ran, WritesLast, status_of};
 ghost use Rattle.ch_transcript.specs.Transcript.{Progress, beginning, Plays};
-ghost use Rattle.ch_config.specs.Config.{built_in};
+ghost use Rattle.ch_config.specs.Config.{IsConfig};
 ghost use Rattle.ch_player.specs.Playing.{IsAt, IsSound, config_of};
+ghost use Rattle.ch_replay.specs.ConfigLines.{config_or_line, fault_line, Declines};
+ghost use Rattle.ch_replay.specs.Playable.{IsPlayable};
 ghost use Rattle.ch_replay.specs.Serving.{Serves, Stops, EndsAt};
+ghost use Rattle.ch_replay.specs.Words.{is_replay, usage_line};
 
 use crate::line_reader::{LineReader, Next};
-use crate::printing::{error_line, long_line};
-use ch_base::{Memory, Text};
+use crate::printing::{error_line, fault_line, long_line};
+use ch_base::Text;
 use ch_config::Config;
+use ch_config_text::{ConfigFault, read_config};
 use ch_io::{Sink, Source, write_all};
 use ch_player::{LineFault, Player};
 use ch_transcript::Ending;
 use std::alloc::Global;
 
-/// Replays the transcript of a source into a sink, and answers the status of the program.
+/// Replays the transcript of a source into a sink, with the configuration of these bytes, and answers the
+/// status of the program. No bytes are given where they can't be read.
 ///
 /// | Status | Comes |
 /// |---|---|
 /// | 0 | the transcript was read to its end |
-/// | 2 | the words aren't `replay` alone; the usage line is written |
+/// | 2 | the words aren't `replay` with at most one more; the usage line is written |
+/// | 3 | there is no configuration; a line says why |
 /// | 4 | a line isn't a transcript line; it is named last |
 /// | 5 | a read of the source failed |
 /// | 6 | a write to the sink failed |
 /// | 7 | want of memory |
 /// | 8 | a line is longer than 1,048,576 bytes; it is named last |
-///
-/// The configuration isn't looked at yet: the built-in one serves.
 pub fn replay<S: Source, K: Sink>(
     alloc: Global,
     words: &[Text],
@@ -38,18 +42,44 @@ pub fn replay<S: Source, K: Sink>(
 ) -> u8
     ensures words { (result ≡ 2) ↔ (is_replay words.now ≡ false) }
     ensures usage { result ≡ 2 → WritesLast usage_line (K.told sink.old) (K.told sink.new) (Rose (K.faults sink.old) (K.faults sink.new)) }
-    ensures unread { result ≡ 2 → source.new ≡ source.old }
-    ensures ran { is_replay words.now ≡ true → (ending : Ending) × (result ≡ status_of ending)
-        × Ran built_in (S.left source.old) (S.left source.new) (K.told sink.old) (K.told sink.new) (Rose (K.faults sink.old) (K.faults sink.new)) ending }
+    ensures refused { result ≡ 3 → (is_replay words.now ≡ true) × IsErr (config_or_line (option_copied config.entry)) }
+    ensures declined { is_replay words.now ≡ true → IfErr (config_or_line (option_copied config.entry))
+        (λ line. Declines line result (K.told sink.old) (K.told sink.new) (Rose (K.faults sink.old) (K.faults sink.new))) }
+    ensures unread { ((result ≡ 2) ⊎ (result ≡ 3)) → source.new ≡ source.old }
+    ensures ran { is_replay words.now ≡ true → IfOk (config_or_line (option_copied config.entry)) (λ c. (ending : Ending) × (result ≡ status_of ending)
+        × Ran c (S.left source.old) (S.left source.new) (K.told sink.old) (K.told sink.new) (Rose (K.faults sink.old) (K.faults sink.new)) ending) }
+    ensures complete { is_replay words.now ≡ true → IfOk (config_or_line (option_copied config.entry)) (λ c. IfSome (S.left source.old) (λ bytes.
+        IsPlayable c bytes → ¬ Rose (S.faults source.old) (S.faults source.new) → ¬ Rose (K.faults sink.old) (K.faults sink.new)
+        → (result ≡ 0) ⊎ (result ≡ 7))) }
     ensures read_fault { result ≡ 5 → Rose (S.faults source.old) (S.faults source.new) }
     ensures write_fault { result ≡ 6 → Rose (K.faults sink.old) (K.faults sink.new) }
 {
-    let _ = config;
     if !is_replay(words) {
-        write_last(sink, "usage: channelsd replay\n");
+        write_last(sink, "usage: channelsd replay [config]\n");
         return 2;
     }
-    status_of(replay_lines(alloc, source, sink))
+    let Some(bytes) = config else {
+        write_last(sink, "config unread\n");
+        return 3;
+    };
+    match read_config(alloc, bytes) {
+        Ok(config) => status_of(replay_lines(alloc, config, source, sink)),
+        Err(fault) => decline(alloc, fault, sink),
+    }
+}
+
+/// Says what is wrong with the bytes of a configuration, and answers the status.
+fn decline<K: Sink>(alloc: Global, fault: ConfigFault, sink: &mut K) -> u8
+    ensures declines { Declines (fault_line fault) result (K.told sink.old) (K.told sink.new) (Rose (K.faults sink.old) (K.faults sink.new)) }
+    ensures memory { fault ≡ ConfigFault.Memory → (result ≡ 7) × (sink.new ≡ sink.old) }
+{
+    match fault_line(alloc, fault) {
+        Ok(line) => {
+            write_last(sink, line.as_str());
+            3
+        }
+        Err(_) => 7,
+    }
 }
 
 fn status_of(ending: Ending) -> u8
@@ -69,18 +99,24 @@ fn is_replay(words: &[Text]) -> bool
     ensures { result ≡ is_replay words.now }
 {
     match words {
-        [word] => word.as_str() == "replay",
+        [word] | [word, _] => word.as_str() == "replay",
         _ => false,
     }
 }
 
 /// Replays line by line: the output of a line is written before the next one is read.
-fn replay_lines<S: Source, K: Sink>(alloc: Global, source: &mut S, sink: &mut K) -> Ending
-    ensures ran { Ran built_in (S.left source.old) (S.left source.new) (K.told sink.old) (K.told sink.new) (Rose (K.faults sink.old) (K.faults sink.new)) result }
+fn replay_lines<S: Source, K: Sink>(
+    alloc: Global,
+    config: Config,
+    source: &mut S,
+    sink: &mut K,
+) -> Ending
+    requires { IsConfig config }
+    ensures ran { Ran config (S.left source.old) (S.left source.new) (K.told sink.old) (K.told sink.new) (Rose (K.faults sink.old) (K.faults sink.new)) result }
     ensures read_fault { result ≡ Ending.ReadFailed → Rose (S.faults source.old) (S.faults source.new) }
     ensures write_fault { result ≡ Ending.WriteFailed → Rose (K.faults sink.old) (K.faults sink.new) }
 {
-    let Ok(mut player) = new_player(alloc) else {
+    let Ok(mut player) = Player::new(alloc, config) else {
         return Ending::Memory;
     };
     let mut reader = LineReader::new();
@@ -103,16 +139,6 @@ fn replay_lines<S: Source, K: Sink>(alloc: Global, source: &mut S, sink: &mut K)
             Next::Memory => return Ending::Memory,
         }
     }
-}
-
-/// The player of a transcript, from its beginning, under the built-in configuration.
-fn new_player(alloc: Global) -> Result<Player, Memory>
-    ensures stands { IfOk result (λ player. IsAt player beginning) }
-    ensures sound { IfOk result IsSound }
-    ensures over { IfOk result (λ player. config_of player ≡ built_in) }
-{
-    let config = Config::built_in(alloc)?;
-    Player::new(alloc, config)
 }
 
 /// Plays a line, and writes its output.

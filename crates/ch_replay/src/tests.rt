@@ -4,6 +4,10 @@ use ch_io::{MemSink, MemSource};
 use std::alloc::Global;
 use std::test::Fail;
 
+/// The text of the built-in configuration.
+pub const BUILT_IN: &str =
+    r#"{"app_id":"1","key":"k","secret":"s","chan_shards":1,"user_shards":1}"#;
+
 const TWO_OPEN: &str = "0 open /app/k?protocol=7\n\n# x\n0 open /app/k?protocol=7\n";
 
 const FIRST: &str =
@@ -76,7 +80,13 @@ fn lines_are_judged_one_after_another(rt: HostRuntime) -> Result<(), Fail> {
         let mut source = source(alloc, text, &[3, 5], 0)?;
         let mut sink = sink(alloc, &[7], 0)?;
         assert_eq!(rt;
-            replay(alloc, words.as_slice(), None, &mut source, &mut sink),
+            replay(
+                alloc,
+                words.as_slice(),
+                Some(BUILT_IN.as_bytes()),
+                &mut source,
+                &mut sink
+            ),
             status
         );
         assert_eq!(rt; sink.as_slice(), end.as_bytes());
@@ -87,16 +97,25 @@ fn lines_are_judged_one_after_another(rt: HostRuntime) -> Result<(), Fail> {
 #[test]
 fn other_words_give_the_usage_line(rt: HostRuntime) -> Result<(), Fail> {
     let alloc: Global = rt.alloc();
-    let rows: [&[&str]; 4] = [&[], &["replay", "a", "b"], &["replay", "a"], &["serve"]];
+    let rows: [&[&str]; 4] = [&[], &["replay", "a", "b"], &["serve"], &["serve", "replay"]];
     for row in rows {
         let words = words(alloc, row)?;
         let mut source = source(alloc, TWO_OPEN, &[], 0)?;
         let mut sink = sink(alloc, &[], 0)?;
         assert_eq!(rt;
-            replay(alloc, words.as_slice(), None, &mut source, &mut sink),
+            replay(
+                alloc,
+                words.as_slice(),
+                Some(BUILT_IN.as_bytes()),
+                &mut source,
+                &mut sink
+            ),
             2
         );
-        assert_eq!(rt; sink.as_slice(), b"usage: channelsd replay\n".as_slice());
+        assert_eq!(rt;
+            sink.as_slice(),
+            b"usage: channelsd replay [config]\n".as_slice()
+        );
     }
     Ok(())
 }
@@ -110,7 +129,13 @@ fn a_failed_read_or_write_is_told(rt: HostRuntime) -> Result<(), Fail> {
         let mut source = source(alloc, TWO_OPEN, &[30, 30], k)?;
         let mut sink = sink(alloc, &[], 0)?;
         assert_eq!(rt;
-            replay(alloc, words.as_slice(), None, &mut source, &mut sink),
+            replay(
+                alloc,
+                words.as_slice(),
+                Some(BUILT_IN.as_bytes()),
+                &mut source,
+                &mut sink
+            ),
             5
         );
         assert_eq!(rt; sink.as_slice(), written.as_bytes());
@@ -120,7 +145,13 @@ fn a_failed_read_or_write_is_told(rt: HostRuntime) -> Result<(), Fail> {
         let mut source = source(alloc, TWO_OPEN, &[], 0)?;
         let mut sink = sink(alloc, &[50, 52, 50, 52], k)?;
         assert_eq!(rt;
-            replay(alloc, words.as_slice(), None, &mut source, &mut sink),
+            replay(
+                alloc,
+                words.as_slice(),
+                Some(BUILT_IN.as_bytes()),
+                &mut source,
+                &mut sink
+            ),
             6
         );
         assert_eq!(rt; sink.as_slice().len(), written);
@@ -140,7 +171,13 @@ fn a_line_has_its_greatest_length(rt: HostRuntime) -> Result<(), Fail> {
         let mut source = MemSource::new(bytes, Vec::new(alloc), Vec::new(alloc));
         let mut sink = sink(alloc, &[], 0)?;
         assert_eq!(rt;
-            replay(alloc, words.as_slice(), None, &mut source, &mut sink),
+            replay(
+                alloc,
+                words.as_slice(),
+                Some(BUILT_IN.as_bytes()),
+                &mut source,
+                &mut sink
+            ),
             status
         );
         assert_eq!(rt; sink.as_slice(), written.as_bytes());

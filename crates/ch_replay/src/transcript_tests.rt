@@ -1,5 +1,5 @@
 use crate::replay;
-use crate::tests::{sink, source, words};
+use crate::tests::{BUILT_IN, sink, source, words};
 use ch_base::Text;
 use std::alloc::Global;
 use std::str::from_utf8;
@@ -21,7 +21,13 @@ fn replayed(alloc: Global, lines: &[&str]) -> Result<(u8, Text), Fail> {
     let input = joined(alloc, lines)?;
     let mut source = source(alloc, input.as_str(), &[], 0)?;
     let mut sink = sink(alloc, &[], 0)?;
-    let status = replay(alloc, words.as_slice(), None, &mut source, &mut sink);
+    let status = replay(
+        alloc,
+        words.as_slice(),
+        Some(BUILT_IN.as_bytes()),
+        &mut source,
+        &mut sink,
+    );
     Ok((status, Text::of(alloc, from_utf8(sink.as_slice())?)?))
 }
 
@@ -410,7 +416,13 @@ fn ends_so(alloc: Global, text: &Text, end: &str) -> Result<bool, Fail> {
     let words = words(alloc, &["replay"])?;
     let mut source = source(alloc, text.as_str(), &[], 0)?;
     let mut sink = sink(alloc, &[], 0)?;
-    let status = replay(alloc, words.as_slice(), None, &mut source, &mut sink);
+    let status = replay(
+        alloc,
+        words.as_slice(),
+        Some(BUILT_IN.as_bytes()),
+        &mut source,
+        &mut sink,
+    );
     Ok(status == 0 && sink.as_slice().ends_with(end.as_bytes()))
 }
 

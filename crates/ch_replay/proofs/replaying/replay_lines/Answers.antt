@@ -1,5 +1,4 @@
 use Rattle.std.proofs.Common.{◌≡◌, ◌≤◌, ◌∙◌, ℕ, List, subst, arith}
-use Rattle.ch_config.specs.Config.{built_in}
 use Rattle.ch_config.specs.declared.config.Config.{Config}
 use Rattle.ch_io.specs.Counts.{Rose}
 use Rattle.ch_transcript.specs.Transcript.{Plays}
@@ -19,7 +18,7 @@ by_both P {a} {b} {x} {y} same_config same_line h =
     subst R same_config (subst Q same_line h)
 
 pub returns-in_default-clause-ran : goal.returns-in_default-clause-ran
-returns-in_default-clause-ran g c = nothing_ran built_in _ _ _
+returns-in_default-clause-ran g c = nothing_ran c.args.config _ _ _
 
 pub lines-smaller : goal.lines-smaller
 lines-smaller g c = Runs-smaller c.in-Whole.ensures.gives
