@@ -25,6 +25,3 @@ pub use served::Served;
 pub use text::Text;
 pub use user::{UserAnswer, UserCall};
 pub use webhook::Hook;
-
-#[cfg(test)]
-mod tests;

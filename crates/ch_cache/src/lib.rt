@@ -9,6 +9,3 @@ mod latest_event;
 
 pub use cache::Cache;
 pub use latest_event::LatestEvent;
-
-#[cfg(test)]
-mod tests;

@@ -10,6 +10,3 @@ mod config;
 
 pub use address::{Address, Target};
 pub use config::Config;
-
-#[cfg(test)]
-mod tests;

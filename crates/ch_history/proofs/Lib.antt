@@ -20,3 +20,4 @@ pub mod Placement
 pub mod NameExamples
 pub mod ChannelExamples
 pub mod UserExamples
+pub mod Crossing

@@ -17,6 +17,8 @@ pub mod Laws
 pub mod SignIns
 pub mod UserFrames
 pub mod UserAnswers
+pub mod AnswerKinds
+pub mod Alone
 pub mod UserLegal
 pub mod UserLaws
 pub mod Placement

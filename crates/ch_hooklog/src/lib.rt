@@ -8,6 +8,3 @@
 mod hook_log;
 
 pub use hook_log::HookLog;
-
-#[cfg(test)]
-mod tests;

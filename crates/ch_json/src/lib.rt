@@ -29,6 +29,3 @@ pub use node::{Form, Found, Node};
 pub use parse::read;
 pub use span::Span;
 pub use unescape_string::unescape;
-
-#[cfg(test)]
-mod tests;

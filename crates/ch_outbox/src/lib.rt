@@ -8,6 +8,3 @@ mod outbox;
 mod queue;
 
 pub use outbox::Outbox;
-
-#[cfg(test)]
-mod tests;

@@ -4,3 +4,4 @@ pub mod Counted
 pub mod SameUsers
 pub mod FirstRow
 pub mod SameChanges
+pub mod Crossing

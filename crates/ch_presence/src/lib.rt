@@ -15,6 +15,3 @@ mod users;
 pub use laws::{rows_follow_subscriptions, users_are_of_subscriptions};
 pub use presence::Presence;
 pub use present::Present;
-
-#[cfg(test)]
-mod tests;

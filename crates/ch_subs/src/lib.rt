@@ -12,6 +12,3 @@ mod subs;
 pub use ch_history::Subscription;
 pub use joined_as::JoinedAs;
 pub use subs::Subs;
-
-#[cfg(test)]
-mod tests;

@@ -1,3 +1,4 @@
 pub mod Once
 pub mod OfUser
 pub mod LeastUser
+pub mod Crossing

@@ -13,6 +13,3 @@ mod watches;
 
 pub use holder::Holder;
 pub use watches::Watches;
-
-#[cfg(test)]
-mod tests;
