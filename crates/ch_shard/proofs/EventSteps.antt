@@ -12,7 +12,7 @@ use Rattle.ch_history.specs.Frames.{is_other, broadcast}
 use Rattle.ch_history.proofs.Lists.{list_any-false}
 use Rattle.ch_cache.specs.Latest.{latest_in}
 use Rattle.ch_shard.specs.Parts.{Parts, Changes, IsUnchanged, PublishGives, SayGives}
-use Rattle.ch_shard.specs.Stands.{HasAnswer}
+use Rattle.ch_history.specs.AnswerKinds.{IsAnswerTo}
 use Rattle.ch_shard.proofs.Simulation.{Moves, still, keeps}
 use Rattle.ch_shard.proofs.Stays.{stay}
 
@@ -72,9 +72,9 @@ says old new w socket c event body at a gives = by old new w socket c event body
 
 -- a client event is answered Said or NotOn
 kind_by : (old new : Parts) (socket : ℕ) (c event body : List ℕ) (at : ℕ) (a : ChanAnswer) (there : Bool) (A B : Type 0)
-    → MatchBool there ((a ≡ Said) × A) ((a ≡ NotOn) × B) → HasAnswer (Say socket c event body at) a
-kind_by old new socket c event body at a true A B gives = subst (HasAnswer (Say socket c event body at)) (sym gives.0) tt
-kind_by old new socket c event body at a false A B gives = subst (HasAnswer (Say socket c event body at)) (sym gives.0) tt
+    → MatchBool there ((a ≡ Said) × A) ((a ≡ NotOn) × B) → IsAnswerTo (Say socket c event body at) a
+kind_by old new socket c event body at a true A B gives = subst (IsAnswerTo (Say socket c event body at)) (sym gives.0) tt
+kind_by old new socket c event body at a false A B gives = subst (IsAnswerTo (Say socket c event body at)) (sym gives.0) tt
 
-pub say_kind : (old new : Parts) (socket : ℕ) (c event body : List ℕ) (at : ℕ) (a : ChanAnswer) → SayGives old new socket c event body a → HasAnswer (Say socket c event body at) a
+pub say_kind : (old new : Parts) (socket : ℕ) (c event body : List ℕ) (at : ℕ) (a : ChanAnswer) → SayGives old new socket c event body a → IsAnswerTo (Say socket c event body at) a
 say_kind old new socket c event body at a gives = kind_by old new socket c event body at a (is_on old.subs socket c) _ _ gives

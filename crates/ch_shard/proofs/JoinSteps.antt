@@ -14,7 +14,7 @@ use Rattle.ch_history.proofs.Lists.{filter-none, list_any-false}
 use Rattle.ch_cache.specs.Latest.{latest_in}
 use Rattle.ch_outbox.specs.Outbox.{frames_of}
 use Rattle.ch_shard.specs.Parts.{Parts, Changes, IsUnchanged, JoinGives, join_frames, join_hooks}
-use Rattle.ch_shard.specs.Stands.{HasAnswer}
+use Rattle.ch_history.specs.AnswerKinds.{IsAnswerTo}
 use Rattle.ch_shard.proofs.Simulation.{Moves, still, keeps}
 use Rattle.ch_shard.proofs.Stays.{stay, none_own}
 
@@ -70,10 +70,10 @@ joins old new n at a gives = by old new n at a (is_on old.subs n.socket n.channe
 
 -- a Join is answered Joined, Already or Crowded
 kind_by : (n : Subscription) (at : ℕ) (a : ChanAnswer) (there crowded : Bool) (A B C : Type 0)
-    → MatchBool there ((a ≡ Already) × A) (MatchBool crowded ((a ≡ Crowded) × B) ((a ≡ Joined) × C)) → HasAnswer (Join n.socket n.channel n.member at) a
-kind_by n at a true crowded A B C gives = subst (HasAnswer (Join n.socket n.channel n.member at)) (sym gives.0) tt
-kind_by n at a false true A B C gives = subst (HasAnswer (Join n.socket n.channel n.member at)) (sym gives.0) tt
-kind_by n at a false false A B C gives = subst (HasAnswer (Join n.socket n.channel n.member at)) (sym gives.0) tt
+    → MatchBool there ((a ≡ Already) × A) (MatchBool crowded ((a ≡ Crowded) × B) ((a ≡ Joined) × C)) → IsAnswerTo (Join n.socket n.channel n.member at) a
+kind_by n at a true crowded A B C gives = subst (IsAnswerTo (Join n.socket n.channel n.member at)) (sym gives.0) tt
+kind_by n at a false true A B C gives = subst (IsAnswerTo (Join n.socket n.channel n.member at)) (sym gives.0) tt
+kind_by n at a false false A B C gives = subst (IsAnswerTo (Join n.socket n.channel n.member at)) (sym gives.0) tt
 
-pub join_kind : (old new : Parts) (n : Subscription) (at : ℕ) (a : ChanAnswer) → JoinGives old new n a → HasAnswer (Join n.socket n.channel n.member at) a
+pub join_kind : (old new : Parts) (n : Subscription) (at : ℕ) (a : ChanAnswer) → JoinGives old new n a → IsAnswerTo (Join n.socket n.channel n.member at) a
 join_kind old new n at a gives = kind_by n at a (is_on old.subs n.socket n.channel) (is_crowded n.channel (on_channel old.subs n.channel) n.member) _ _ _ gives

@@ -14,4 +14,5 @@ pub mod UserLists
 pub mod NameLists
 pub mod LastEntries
 pub mod OpenCounts
-pub mod NullText
+pub mod Seating
+pub mod Crossing

@@ -8,3 +8,5 @@ pub mod Holds
 pub mod Tail
 pub mod Kept
 pub mod Stands
+pub mod Seats
+pub mod SeatLaws

@@ -37,7 +37,7 @@ impl Channels {
     ghost use Rattle.ch_history.specs.Entries.{ChanHistory};
     ghost use Rattle.ch_history.specs.WellFormed.{IsWellFormed};
     ghost use Rattle.ch_shard.specs.Holds.{Holds};
-    ghost use Rattle.ch_shard.specs.Stands.{HasAnswer};
+    ghost use Rattle.ch_history.specs.AnswerKinds.{IsAnswerTo};
 
     /// No channels. It takes no memory.
     pub fn new(alloc: Global) -> Channels
@@ -69,7 +69,7 @@ impl Channels {
             (λ _. Holds self.new h) }
         ensures take { call.now ≡ ChanCall.Take → IsOk result }
         ensures take_hooks { (at : ℕ) → call.now ≡ ChanCall.TakeHooks at → IsOk result }
-        ensures kind { IfOk result (HasAnswer call.now) }
+        ensures kind { IfOk result (IsAnswerTo call.now) }
     {
         match call {
             ChanCall::Join {

@@ -20,13 +20,12 @@ mod news;
 mod parting;
 mod publishing;
 mod saying;
+mod seat;
 mod shard;
 mod tail;
 mod taking;
 mod telling;
 
 pub use brief::Brief;
+pub use seat::ChanSeat;
 pub use shard::ChanShard;
-
-#[cfg(test)]
-mod tests;

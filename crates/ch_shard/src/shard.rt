@@ -31,7 +31,8 @@ impl ChanShard {
     ghost use Rattle.ch_history.specs.Entries.{ChanHistory};
     ghost use Rattle.ch_history.specs.Laws.{OccupancyAlternates, MembershipAlternates, NewcomersGreeted};
     ghost use Rattle.ch_history.specs.WellFormed.{IsWellFormed};
-    ghost use Rattle.ch_shard.specs.Stands.{Stands, HasAnswer};
+    ghost use Rattle.ch_history.specs.AnswerKinds.{IsAnswerTo};
+    ghost use Rattle.ch_shard.specs.Stands.{Stands};
 
     /// A shard without subscriptions. It stands for the empty history.
     pub fn new(alloc: Global) -> Result<ChanShard, Memory>
@@ -58,7 +59,7 @@ impl ChanShard {
             (λ _. Stands self.new h) }
         ensures take { call.now ≡ ChanCall.Take → IsOk result }
         ensures take_hooks { (at : ℕ) → call.now ≡ ChanCall.TakeHooks at → IsOk result }
-        ensures kind { IfOk result (HasAnswer call.now) }
+        ensures kind { IfOk result (IsAnswerTo call.now) }
         ensures occupancy { (h : ChanHistory) → Stands self.new h → (c : List ℕ) → OccupancyAlternates h c }
         ensures membership { (h : ChanHistory) → Stands self.new h → (c id : List ℕ) → IsTrue (is_presence c) → MembershipAlternates h c id }
         ensures newcomers { (h : ChanHistory) → Stands self.new h → NewcomersGreeted h }

@@ -9,12 +9,11 @@
 mod deliveries;
 mod made;
 mod parting;
+mod seat;
 mod sending;
 mod shard;
 mod signing;
 mod telling;
 
+pub use seat::UserSeat;
 pub use shard::UserShard;
-
-#[cfg(test)]
-mod tests;

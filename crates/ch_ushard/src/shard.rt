@@ -30,7 +30,8 @@ impl UserShard {
     ghost use Rattle.ch_history.specs.Entries.{UserHistory};
     ghost use Rattle.ch_history.specs.UserLegal.{IsUserWellFormed};
     ghost use Rattle.ch_history.specs.UserLaws.{WatchAlternates};
-    ghost use Rattle.ch_ushard.specs.Stands.{Stands, HasAnswer};
+    ghost use Rattle.ch_history.specs.AnswerKinds.{IsUserAnswerTo};
+    ghost use Rattle.ch_ushard.specs.Stands.{Stands};
     ghost use Rattle.ch_ushard.specs.OpenSigns.{open_signs};
 
     /// A shard without sign-ins and watches. It stands for the empty history.
@@ -57,7 +58,7 @@ impl UserShard {
             (λ answer. Stands self.new (h ++ entry caller call.now answer ∷ []))
             (λ _. Stands self.new h) }
         ensures take { call.now ≡ UserCall.Take → IsOk result }
-        ensures kind { IfOk result (HasAnswer call.now) }
+        ensures kind { IfOk result (IsUserAnswerTo call.now) }
         ensures watchers { (h : UserHistory) → Stands self.new h → (socket : ℕ) (user : List ℕ) → WatchAlternates h socket user }
     {
         match call {

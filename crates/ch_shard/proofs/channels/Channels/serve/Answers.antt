@@ -3,7 +3,7 @@ use Rattle.std.specs.Option.{option_copied}
 use Rattle.ch_base.specs.declared.channel.ChanCall.{ChanCall}
 use Rattle.ch_base.specs.declared.channel.ChanCall.TheVariants.{Join}
 use Rattle.ch_shard.specs.Parts.{JoinGives, LeaveGives, LostGives, PublishGives, SayGives, newcomer}
-use Rattle.ch_shard.specs.Stands.{HasAnswer}
+use Rattle.ch_history.specs.AnswerKinds.{IsAnswerTo}
 use Rattle.ch_shard.proofs.Simulation.{Holds-moves, Holds-served, Holds-read, Moves-as, answers_so}
 use Rattle.ch_shard.proofs.JoinSteps.{joins, join_kind}
 use Rattle.ch_shard.proofs.LeaveSteps.{leaves, loses}
@@ -22,8 +22,8 @@ pub returns-in-Join-clause-kind : goal.returns-in-Join-clause-kind
 returns-in-Join-clause-kind c =
     let n = newcomer c.args.caller c.in-Join.socket c.in-Join.channel (option_copied c.as_ref.result) in
     let shown = c.in-Join.is ∙ ap (λ m. Join c.in-Join.socket c.in-Join.channel m c.in-Join.at) (sym c.as_ref.ensures.value) in
-    answers_so (HasAnswer c.args.call.now) (JoinGives c.args.self.now c.join.new.self n) _ _
-    (λ a gives. let P = λ (x : ChanCall). HasAnswer x a in subst P (sym shown) (join_kind c.args.self.now c.join.new.self n c.in-Join.at a gives)) c.join.ensures
+    answers_so (IsAnswerTo c.args.call.now) (JoinGives c.args.self.now c.join.new.self n) _ _
+    (λ a gives. let P = λ (x : ChanCall). IsAnswerTo x a in subst P (sym shown) (join_kind c.args.self.now c.join.new.self n c.in-Join.at a gives)) c.join.ensures
 
 pub returns-in-Leave-clause-stands : goal.returns-in-Leave-clause-stands
 returns-in-Leave-clause-stands c = λ h stands.
@@ -47,8 +47,8 @@ returns-in-Say-clause-stands c = λ h stands.
 
 pub returns-in-Say-clause-kind : goal.returns-in-Say-clause-kind
 returns-in-Say-clause-kind c =
-    answers_so (HasAnswer c.args.call.now) (SayGives c.args.self.now c.say.new.self c.in-Say.socket c.in-Say.channel c.in-Say.event c.in-Say.body) _ _
-    (λ a gives. let P = λ (x : ChanCall). HasAnswer x a in
+    answers_so (IsAnswerTo c.args.call.now) (SayGives c.args.self.now c.say.new.self c.in-Say.socket c.in-Say.channel c.in-Say.event c.in-Say.body) _ _
+    (λ a gives. let P = λ (x : ChanCall). IsAnswerTo x a in
     subst P (sym c.in-Say.is) (say_kind c.args.self.now c.say.new.self c.in-Say.socket c.in-Say.channel c.in-Say.event c.in-Say.body c.in-Say.at a gives)) c.say.ensures
 
 pub returns-in-Take-clause-stands : goal.returns-in-Take-clause-stands

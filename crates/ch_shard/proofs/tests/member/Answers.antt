@@ -1,5 +1,0 @@
-use Rattle.ch_shard.proofs.NullText.{is_null}
-use Rattle.ch_shard.proofs.tests.member.Goals as goal
-
-pub returns : goal.returns
-returns c = (rw c.in_ok-of.ensures c.requires, rw c.in_ok-of-2.ensures is_null)

@@ -1,6 +1,0 @@
-use Rattle.std.proofs.Common.{refl, arith}
-use Rattle.ch_shard.proofs.NullText.{is_null}
-use Rattle.ch_shard.proofs.tests.say.Goals as goal
-
-pub returns : goal.returns
-returns c = (c.requires.socket, omega arith, rw c.in_ok-of.ensures c.requires.name, rw c.in_ok-of.ensures c.requires.kind, rw c.in_ok-of-2.ensures refl, rw c.in_ok-of-3.ensures is_null)
