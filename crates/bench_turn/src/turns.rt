@@ -8,7 +8,7 @@ use std::thread::{Threads, join};
 
 /// Makes the calls with one pass.
 fn call_often<R: Wait>(rt: &R, lock: &TurnLock<Tally>, mut pass: Pass<Tally>, calls: u64)
-    requires { pass.table ≡ lock.now.table }
+    requires { pass.lock ≡ lock.now }
 {
     for _ in 0..calls {
         let _answer = lock.call(rt, &mut pass, &Add);
@@ -23,15 +23,15 @@ fn call_in_two_threads<R: Threads + Wait + Sync>(
     two: Pass<Tally>,
     calls: u64,
 )
-    requires { (one.table ≡ lock.now.table) × (two.table ≡ lock.now.table) }
+    requires { (one.lock ≡ lock.now) × (two.lock ≡ lock.now) }
 {
     join(
         rt,
         move ||
-            requires { one.table ≡ lock.now.table }
+            requires { one.lock ≡ lock.now }
         { call_often(rt, lock, one, calls) },
         move ||
-            requires { two.table ≡ lock.now.table }
+            requires { two.lock ≡ lock.now }
         { call_often(rt, lock, two, calls) },
     );
 }
@@ -44,16 +44,16 @@ fn call_in_four_threads<R: Threads + Wait + Sync>(
     back: (Pass<Tally>, Pass<Tally>),
     calls: u64,
 )
-    requires front { (front.0.table ≡ lock.now.table) × (front.1.table ≡ lock.now.table) }
-    requires back { (back.0.table ≡ lock.now.table) × (back.1.table ≡ lock.now.table) }
+    requires front { (front.0.lock ≡ lock.now) × (front.1.lock ≡ lock.now) }
+    requires back { (back.0.lock ≡ lock.now) × (back.1.lock ≡ lock.now) }
 {
     join(
         rt,
         move ||
-            requires { (front.0.table ≡ lock.now.table) × (front.1.table ≡ lock.now.table) }
+            requires { (front.0.lock ≡ lock.now) × (front.1.lock ≡ lock.now) }
         { call_in_two_threads(rt, lock, front.0, front.1, calls) },
         move ||
-            requires { (back.0.table ≡ lock.now.table) × (back.1.table ≡ lock.now.table) }
+            requires { (back.0.lock ≡ lock.now) × (back.1.lock ≡ lock.now) }
         { call_in_two_threads(rt, lock, back.0, back.1, calls) },
     );
 }

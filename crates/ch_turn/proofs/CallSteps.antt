@@ -1,6 +1,7 @@
 -- Each step of a call keeps the rule.
 use Rattle.std.proofs.Common.{◌≡◌, ◌≢◌, ℕ, zero, suc, ◌+◌, ◌*◌, ◌%◌, ◌^◌, ◌<◌, ◌≤◌, List, [], ◌∷◌, ◌++◌, length, get_or, set, sym, refl, ap, ◌∙◌, subst, arith, append_assoc, length-append, le_refl}
 use Rattle.std.proofs.lemmas.List.{append-nil}
+use Rattle.std.proofs.lemmas.List.Elements.{All-push}
 use Rattle.std.proofs.Math.Nat.{mod-eq_of_lt}
 use mathlib.Core.Logic.{dite}
 use mathlib.Core.Option.{Option, none, some, some-injective}
@@ -16,6 +17,7 @@ use Rattle.ch_turn.specs.declared.table.Stage.{Stage}
 use Rattle.ch_turn.specs.declared.table.Stage.TheVariants.{Idle, Waits, Holds, Recorded}
 use Rattle.ch_turn.specs.declared.table.Slot.{Slot}
 use Rattle.ch_turn.specs.declared.table.Slot.TheVariants.{Value, Taken, Pending}
+use Rattle.ch_turn.specs.Callers.{CallersBelow}
 use Rattle.ch_turn.specs.Tickets.{HasTicket, HasTurn}
 use Rattle.ch_turn.specs.Views.{calls_of, callers_of}
 use Rattle.ch_turn.specs.LockRule.{StageFits, SeatFits, Stored, Kept}
@@ -101,6 +103,7 @@ module _ {T C A : Type 0} (place_of : T → ℕ × ℕ) (legal : ℕ × ℕ → 
           order = (omega arith, r.order.1, r.order.2);
           few_entries = r.few_entries;
           is_legal = r.is_legal;
+          known_callers = r.known_callers;
           stored = stored_stays place_of legal stands place r.log (r.owner r.serving) (owner' r.serving) s.homes s.views (set s.views id w) r.phase
               (λ _ h. let z = stays_at (λ (u : V). (t : ℕ) × HasTurn t u.stage) s.views id me.0 w at (r.owner r.serving) (λ q. absurd (none_turn q.0 q.1)) h in
               let g = r.each_seat (r.owner r.serving) h.0 h.1 in
@@ -154,7 +157,7 @@ module _ {T C A : Type 0} (place_of : T → ℕ × ℕ) (legal : ℕ × ℕ → 
       let merged = o.3 in
       let fits = subst (StageFits f.unseen r.serving r.phase r.ticket) waits f.staged in
       let whole : r.log ≡ me.0.seen ++ more = sym f.seen_begins in
-      let here : place ≡ me.0.place = sym (f.placed o.2) in
+      let here : place ≡ me.0.place = sym (f.placed o.2).0 in
       let w : V = record me.0 { stage = Holds t; seen = me.0.seen ++ more } in
       let no_turn : (j : ℕ) (d : V) (k : ℕ) → get_elem? s.views j ≡ some d → HasTurn k d.stage → ⊥ = (λ j d k e h. let g = r.each_seat j d e in let facts = turn_facts g.unseen r.serving r.phase r.ticket k d.stage g.staged h in let c = facts.2 in absurd (omega arith)) in
       let begun = r.few_entries in
@@ -173,6 +176,7 @@ module _ {T C A : Type 0} (place_of : T → ℕ × ℕ) (legal : ℕ × ℕ → 
           order = (r.order.0, omega arith, r.order.2);
           few_entries = omega arith;
           is_legal = r.is_legal;
+          known_callers = r.known_callers;
           stored = (ap (λ (h : List (Option S)). set h 0 none) st.1, w, ap (get_elem? (set s.views id w)) there ∙ set_here s.views id w (inside s.views id me.0 at), (t, refl));
           each_seat = seats_stay (SeatFits place callers r.log r.ticket r.serving 1 r.owner r.holder) s.views id w
               record {
@@ -200,6 +204,7 @@ module _ {T C A : Type 0} (place_of : T → ℕ × ℕ) (legal : ℕ × ℕ → 
           others = (f.held me.0.low (le_refl me.0.low) (omega arith)).1 (omega arith);
           view = refl;
           lawful = subst (λ (z : (ℕ × ℕ) × List E). legal z.0 z.1) (λ i. (here i, whole i)) r.is_legal;
+          known = subst (λ (z : ℕ × List E). CallersBelow z.0 z.1) (λ i. (sym (f.placed o.2).1 i, whole i)) r.known_callers;
           right = subst (stands st.0) whole st.2;
           placed = st.3 ∙ here;
         },
@@ -268,7 +273,8 @@ module _ {T C A : Type 0} (place_of : T → ℕ × ℕ) (legal : ℕ × ℕ → 
           words = ap (λ (n : ℕ). r.ticket ∷ r.serving ∷ n ∷ []) up;
           order = (r.order.0, omega arith, r.order.2);
           few_entries = omega (arith, length-append r.log (e ∷ []));
-          is_legal = subst (λ (z : (ℕ × ℕ) × List E). legal z.0 z.1) (λ i. (f.placed o.2 i, whole i ++ e ∷ [])) lawful;
+          is_legal = subst (λ (z : (ℕ × ℕ) × List E). legal z.0 z.1) (λ i. ((f.placed o.2).0 i, whole i ++ e ∷ [])) lawful;
+          known_callers = let range = f.range in All-push (λ d. d.caller < callers) r.log e r.known_callers (omega arith);
           stored = (stored_away place_of legal stands place r.log (r.owner r.serving) s.homes s.views r.phase facts.2 r.stored, w, ap (get_elem? (set s.views id w)) same_owner ∙ set_here s.views id w (inside s.views id me.0 at), (t, refl));
           each_seat = seats_stay (SeatFits place callers (r.log ++ e ∷ []) r.ticket r.serving 2 r.owner r.holder) s.views id w
               record {
@@ -331,7 +337,8 @@ module _ {T C A : Type 0} (place_of : T → ℕ × ℕ) (legal : ℕ × ℕ → 
           order = (omega arith, omega arith, r.order.2);
           few_entries = omega arith;
           is_legal = r.is_legal;
-          stored = (x, back, subst (stands x) whole right, placed ∙ f.placed o.2);
+          known_callers = r.known_callers;
+          stored = (x, back, subst (stands x) whole right, placed ∙ (f.placed o.2).0);
           each_seat = seats_stay (SeatFits place callers r.log r.ticket (r.serving + 1) 0 r.owner r.holder) s.views id w
               record {
                 unseen = f.unseen;

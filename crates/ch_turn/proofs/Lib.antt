@@ -7,6 +7,7 @@ pub mod SeatSteps
 pub mod TableEnds
 pub mod PendingCalls
 pub mod PassLists
+pub mod Longest
 pub mod Tallies
 pub mod Crossing
 pub mod TallyCrossing

@@ -5,7 +5,8 @@ use mathlib.Core.Logic.{dite}
 use native.Mathlib.Decide.{ℕ_discrete, dec_lt}
 use Rattle.ch_base.specs.declared.entry.Entry.{Entry}
 use Rattle.ch_base.specs.Growth.{NotBy}
-use Rattle.ch_turn.specs.PassModels.{LockModel, PassModel, GrowsByOthers, IsPassOf, AllInPlace}
+use Rattle.ch_turn.specs.Callers.{GrowsByOthers}
+use Rattle.ch_turn.specs.PassModels.{LockModel, PassModel, IsPassOf, AllInPlace}
 use Rattle.ch_turn.proofs.Entries.{not_by-append}
 
 module _ {X : Type 0} where

@@ -12,12 +12,13 @@ use Rattle.ch_base.specs.Growth.{NotBy}
 use Rattle.ch_turn.specs.declared.table.View.{View}
 use Rattle.ch_turn.specs.declared.table.Stage.TheVariants.{Idle}
 use Rattle.ch_turn.specs.declared.table.Slot.{Slot}
+use Rattle.ch_turn.specs.Callers.{CallersBelow}
 use Rattle.ch_turn.specs.Tickets.{HasTicket, HasTurn}
 use Rattle.ch_turn.specs.Views.{after_dealing, dealt_view, telling_view, joint_view, spent_view, calls_of, callers_of}
 use Rattle.ch_turn.specs.LockRule.{SeatFits, Kept}
 use Rattle.ch_turn.specs.StepEffects.{Merges}
 use Rattle.ch_turn.proofs.Numbering.{put, put_here, put_else}
-use Rattle.ch_turn.proofs.Entries.{not_by-left, not_by-right, two_fronts}
+use Rattle.ch_turn.proofs.Entries.{not_by-left, not_by-right, two_fronts, below-left}
 use Rattle.ch_turn.proofs.ViewLists.{inside, stays_at, seats_stay, still, snoc_at, total_set, total-push}
 use Rattle.ch_turn.proofs.RuleParts.{no_ticket, no_turn, idle_fits, rehold, stored_stays}
 
@@ -57,6 +58,7 @@ module _ {T C A : Type 0} (place_of : T → ℕ × ℕ) (legal : ℕ × ℕ → 
     order = r.order;
     few_entries = r.few_entries;
     is_legal = r.is_legal;
+    known_callers = r.known_callers;
     stored = stored_stays place_of legal stands place r.log (r.owner r.serving) (r.owner r.serving) s.homes s.views (vs ++ right ∷ []) r.phase
         (λ _ h. still (λ (u : V). (t : ℕ) × HasTurn t u.stage) vs right (r.owner r.serving)
         (stays_at (λ (u : V). (t : ℕ) × HasTurn t u.stage) s.views id v left at (r.owner r.serving) (λ q. (q.0, subst (HasTurn q.0) (sym same_turn) q.1)) h)) r.stored;
@@ -164,6 +166,7 @@ module _ {T C A : Type 0} (place_of : T → ℕ × ℕ) (legal : ℕ × ℕ → 
         order = r.order;
         few_entries = r.few_entries;
         is_legal = r.is_legal;
+        known_callers = r.known_callers;
         stored = stored_stays place_of legal stands place r.log (r.owner r.serving) (r.owner r.serving) s.homes s.views (set vs other spent_view) r.phase
             (λ _ h. keep (λ (u : V). (t : ℕ) × HasTurn t u.stage) (λ q. absurd (no_turn v.stage idle q.0 q.1)) (λ q. absurd (no_turn w.stage rests q.0 q.1)) (r.owner r.serving) h) r.stored;
         each_seat = seats_stay (SeatFits place callers r.log r.ticket r.serving r.phase r.owner holder') vs other spent_view
@@ -231,7 +234,8 @@ module _ {T C A : Type 0} (place_of : T → ℕ × ℕ) (legal : ℕ × ℕ → 
   merge_keeps prefix slots id me word idle live s r _ at _ =
       let v : V = me.0 in
       let f = r.each_seat id v at in
-      let here : place ≡ v.place = sym (f.placed live) in
+      let here : place ≡ v.place = sym (f.placed live).0 in
+      let many : callers ≡ v.callers = sym (f.placed live).1 in
       let low = f.range.0 in
       let next : (list rest : List E) → list ++ rest ≡ r.log → ((i : ℕ) → v.low ≤ i → i < v.high → NotBy i rest)
       → Rule record { words = set s.words word (get_or s.words word 0); homes = s.homes; views = set s.views id (record v { seen = list; told = []; told_from = v.high }) }
@@ -247,6 +251,7 @@ module _ {T C A : Type 0} (place_of : T → ℕ × ℕ) (legal : ℕ × ℕ → 
         order = r.order;
         few_entries = r.few_entries;
         is_legal = r.is_legal;
+        known_callers = r.known_callers;
         stored = stored_stays place_of legal stands place r.log (r.owner r.serving) (r.owner r.serving) s.homes s.views (set s.views id w) r.phase
             (λ _ h. stays_at (λ (u : V). (t : ℕ) × HasTurn t u.stage) s.views id v w at (r.owner r.serving) (λ q. q) h) r.stored;
         each_seat = seats_stay (SeatFits place callers r.log r.ticket r.serving r.phase r.owner r.holder) s.views id w
@@ -280,6 +285,7 @@ module _ {T C A : Type 0} (place_of : T → ℕ × ℕ) (legal : ℕ × ℕ → 
           view = refl;
           longer = inr refl;
           lawful = subst (λ (p : ℕ × ℕ). legal p v.told) here (prefix place v.told f.untold (subst (legal place) (sym f.told_begins) r.is_legal));
+          known = subst (λ (n : ℕ). CallersBelow n v.told) many (below-left callers v.told f.untold (subst (CallersBelow callers) (sym f.told_begins) r.known_callers));
           after_seen = (h.0, h.1, (λ i a b. let q = f.range.1 in not_by-left i h.0 f.untold (subst (NotBy i) h.2 ((f.held i a (omega arith)).1 b))));
           after_told = ([], append-nil v.told, (λ i a b. tt));
         },
@@ -295,6 +301,7 @@ module _ {T C A : Type 0} (place_of : T → ℕ × ℕ) (legal : ℕ × ℕ → 
           view = refl;
           longer = inl refl;
           lawful = subst (λ (p : ℕ × ℕ). legal p v.seen) here (prefix place v.seen f.unseen (subst (legal place) (sym f.seen_begins) r.is_legal));
+          known = subst (λ (n : ℕ). CallersBelow n v.seen) many (below-left callers v.seen f.unseen (subst (CallersBelow callers) (sym f.seen_begins) r.known_callers));
           after_seen = ([], append-nil v.seen, (λ i a b. tt));
           after_told = (h.0, h.1, (λ i a b. not_by-left i h.0 f.unseen (subst (NotBy i) h.2 ((f.held i (omega arith) b).2 a))));
         },

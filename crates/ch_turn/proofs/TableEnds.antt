@@ -1,5 +1,6 @@
 -- The table as it is made, and as it is closed.
 use Rattle.std.proofs.Common.{◌≡◌, ℕ, zero, suc, ◌+◌, ◌<◌, ◌≤◌, List, [], ◌∷◌, ◌++◌, length, sym, refl, ap, ◌∙◌, subst, arith}
+use Rattle.std.proofs.lemmas.List.Elements.{All-nil}
 use mathlib.Core.Option.{Option, some, some-injective, some-ne-none}
 use lib.ListN.{get_elem?}
 use Rattle.atomic_table.specs.Table.{State, Final, Seen, opening}
@@ -9,6 +10,7 @@ use Rattle.ch_turn.specs.declared.table.View.{View}
 use Rattle.ch_turn.specs.declared.table.Stage.TheVariants.{Idle}
 use Rattle.ch_turn.specs.declared.table.Slot.{Slot}
 use Rattle.ch_turn.specs.declared.table.Slot.TheVariants.{Value}
+use Rattle.ch_turn.specs.Callers.{CallersBelow}
 use Rattle.ch_turn.specs.Tickets.{HasTurn}
 use Rattle.ch_turn.specs.Views.{first_view}
 use Rattle.ch_turn.specs.LockRule.{SeatFits, Stored, Kept}
@@ -30,6 +32,7 @@ module _ {T C A : Type 0} (place_of : T → ℕ × ℕ) (legal : ℕ × ℕ → 
     order = (omega arith, omega arith, few);
     few_entries = omega arith;
     is_legal = lawful;
+    known_callers = All-nil (λ e. e.caller < callers);
     stored = (value, refl, right, refl);
     each_seat = one;
     each_ticket = λ t a b. absurd (omega arith);
@@ -49,7 +52,7 @@ module _ {T C A : Type 0} (place_of : T → ℕ × ℕ) (legal : ℕ × ℕ → 
         few_calls = omega arith;
         staged = tt;
         owned = λ t h. absurd h;
-        placed = λ _. refl;
+        placed = λ _. (refl, refl);
       }
       one (suc j) v e = absurd (some-ne-none v (sym e))
 
@@ -87,6 +90,7 @@ module _ {T C A : Type 0} (place_of : T → ℕ × ℕ) (legal : ℕ × ℕ → 
       pub right : stands value log
       pub placed : place_of value ≡ place
       pub lawful : legal place log
+      pub known_callers : CallersBelow callers log
 
     pub closing_ends : (id : ℕ) (v : View C A) (ws : List ℕ) (xs : List (Slot T C A)) → Gathered v callers → Final (Seen (Kept place_of legal stands place callers) id v) ws xs → Ended v.seen ws xs
     closing_ends id v ws xs gathered final =
@@ -108,4 +112,5 @@ module _ {T C A : Type 0} (place_of : T → ℕ × ℕ) (legal : ℕ × ℕ → 
           right = h.2;
           placed = h.3;
           lawful = r.is_legal;
+          known_callers = r.known_callers;
         }

@@ -1,3 +1,4 @@
+pub mod Callers
 pub mod Tickets
 pub mod Views
 pub mod LockRule

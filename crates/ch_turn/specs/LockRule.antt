@@ -9,6 +9,7 @@ use Rattle.ch_turn.specs.declared.table.Stage.{Stage}
 use Rattle.ch_turn.specs.declared.table.Stage.TheVariants.{Idle, Waits, Holds, Recorded}
 use Rattle.ch_turn.specs.declared.table.Slot.{Slot}
 use Rattle.ch_turn.specs.declared.table.Slot.TheVariants.{Value}
+use Rattle.ch_turn.specs.Callers.{CallersBelow}
 use Rattle.ch_turn.specs.Tickets.{HasTicket, HasTurn}
 use Rattle.ch_turn.specs.Views.{History, total, calls_of, callers_of}
 
@@ -37,7 +38,7 @@ module _ {C A : Type 0} where
     -- a seat with a ticket is that of one caller, and has nothing to merge
     pub owned : (t : ℕ) → HasTicket t v.stage
         → (owner t ≡ seat) × (v.high ≡ v.low + 1) × (v.spent ≡ false) × (v.told_from ≡ v.high)
-    pub placed : v.spent ≡ false → v.place ≡ place
+    pub placed : v.spent ≡ false → (v.place ≡ place) × (v.callers ≡ callers)
 
 module _ {T C A : Type 0} (place_of : T → ℕ × ℕ) (legal : ℕ × ℕ → History C A → Type 0) (stands : T → History C A → Type 0) where
   -- at phase 0 a value that stands for the history is at home; else the slot is out, with the seat that has its turn
@@ -60,6 +61,7 @@ module _ {T C A : Type 0} (place_of : T → ℕ × ℕ) (legal : ℕ × ℕ → 
     -- each served ticket has one entry at most
     pub few_entries : length log ≤ serving + (phase - 1)
     pub is_legal : legal place log
+    pub known_callers : CallersBelow callers log
     pub stored : Stored place log (owner serving) s.homes s.views phase
     pub each_seat : (j : ℕ) (v : View C A) → get_elem? s.views j ≡ some v
         → SeatFits place callers log ticket serving phase owner holder j v

@@ -4,6 +4,7 @@ use Rattle.ch_turn.specs.declared.table.View.{View}
 use Rattle.ch_turn.specs.declared.table.Stage.TheVariants.{Idle}
 use Rattle.ch_turn.specs.declared.table.Slot.{Slot}
 use Rattle.ch_turn.specs.declared.table.Slot.TheVariants.{Taken}
+use Rattle.ch_turn.specs.Callers.{CallersBelow}
 use Rattle.ch_turn.specs.Tickets.{HasTurn}
 use Rattle.ch_turn.specs.Views.{History, SeatState}
 use Rattle.ch_turn.specs.StepEffects.{Arrives}
@@ -17,14 +18,15 @@ module _ {T C A : Type 0} where
     pub live : m.0.spent ≡ false
     pub empty_hand : m.1 ≡ []
 
-  -- the seat of a pass, which has seen a legal list
+  -- the seat of a pass, which has seen a legal list of calls of the lock's callers
   pub record IsPassSeat (legal : ℕ × ℕ → History C A → Type 0) (m : SeatState T C A) (caller calls : ℕ) : Type 0 where
     pub rests : Rests m
     pub caller_is : m.0.low ≡ caller
-    pub caller_below : caller < 64
+    pub caller_below : (caller < m.0.callers) × (m.0.callers ≤ 64)
     pub calls_are : m.0.calls ≡ calls
     pub most_calls : calls ≤ 2 ^ 56
     pub seen_legal : legal m.0.place m.0.seen
+    pub seen_known : CallersBelow m.0.callers m.0.seen
 
   -- the seat has its turn, and the slot, whatever lies in it
   abbrev pub HasSlot : SeatState T C A → Type 0
@@ -43,6 +45,7 @@ module _ {C A : Type 0} where
     seen = [];
     told = [];
     place = place;
+    callers = callers;
     low = i;
     high = callers;
     told_from = callers;

@@ -4,6 +4,7 @@ use Rattle.std.specs.Prelude.{◌≡◌, ◌≢◌, ◌⊎◌, ℕ, ◌+◌, ◌
 use Rattle.atomic_table.specs.Table.{Step}
 use Rattle.std.specs.declared.snapshot.Snapshot.{Snapshot}
 use Rattle.ch_base.specs.Growth.{entry, NotBy}
+use Rattle.ch_turn.specs.Callers.{CallersBelow}
 use Rattle.ch_turn.specs.declared.table.View.{View}
 use Rattle.ch_turn.specs.declared.table.Stage.TheVariants.{Idle, Waits, Holds, Recorded}
 use Rattle.ch_turn.specs.declared.table.Slot.{Slot}
@@ -34,6 +35,7 @@ module _ {T C A : Type 0} (place_of : T → ℕ × ℕ) (legal : ℕ × ℕ → 
     pub others : NotBy v.low between
     pub view : v' ≡ record v { stage = Holds t; seen = v.seen ++ between }
     pub lawful : legal v.place (v.seen ++ between)
+    pub known : CallersBelow v.callers (v.seen ++ between)
     pub right : stands x (v.seen ++ between)
     pub placed : place_of x ≡ v.place
 
@@ -50,6 +52,7 @@ module _ {T C A : Type 0} (place_of : T → ℕ × ℕ) (legal : ℕ × ℕ → 
     pub view : m'.0 ≡ record m.0 { seen = m'.0.seen; told = []; told_from = m.0.high }
     pub longer : (m'.0.seen ≡ m.0.seen) ⊎ (m'.0.seen ≡ m.0.told)
     pub lawful : legal m.0.place m'.0.seen
+    pub known : CallersBelow m.0.callers m'.0.seen
     pub after_seen : (more : History C A) × (m.0.seen ++ more ≡ m'.0.seen)
         × ((i : ℕ) → m.0.low ≤ i → i < m.0.told_from → NotBy i more)
     pub after_told : (more : History C A) × (m.0.told ++ more ≡ m'.0.seen)

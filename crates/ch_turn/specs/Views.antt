@@ -21,6 +21,7 @@ module _ {C A : Type 0} where
     seen = [];
     told = [];
     place = place;
+    callers = callers;
     low = 0;
     high = callers;
     told_from = callers;
@@ -51,6 +52,7 @@ module _ {C A : Type 0} where
     seen = [];
     told = [];
     place = (0, 0);
+    callers = 0;
     low = 0;
     high = 0;
     told_from = 0;

@@ -2,6 +2,7 @@
 //! back, and let the next ticket in.
 ghost use Rattle.std.specs.Prelude.{◌≡◌, ℕ, ◌+◌, ◌^◌, ◌<◌, [], ◌∷◌, ◌++◌, IsOk};
 ghost use Rattle.ch_base.specs.Growth.{own, GrowsBy};
+ghost use Rattle.ch_turn.specs.Callers.{CallersBelow};
 ghost use Rattle.ch_turn.specs.SeatStates.{Enters, Rests, HasSlot};
 ghost use Rattle.ch_turn.specs.declared.table.Stage.TheVariants.{Idle, Holds};
 ghost use Rattle.ch_turn.specs.declared.table.Slot.TheVariants.{Taken};
@@ -86,7 +87,7 @@ pub(crate) fn serve_in_turn<T: Served, R: Wait>(
     requires table { (seat.old.table_id ≡ table.now.table_id) × (table.now.table_id.words ≡ 3) }
     requires rests { Rests seat.old.me }
     requires calls { seat.old.me.0.calls < 2 ^ 56 }
-    requires caller { (caller ≡ seat.old.me.0.low) × (caller < 64) }
+    requires caller { (caller ≡ seat.old.me.0.low) × (caller < seat.old.me.0.callers) × (caller < 64) }
     requires fits { T.fits seat.old.me.0.place call.now }
     ensures table { (seat.new.table_id ≡ seat.old.table_id) × (seat.new.id ≡ seat.old.id) }
     ensures view { seat.new.me ≡ (
@@ -98,6 +99,7 @@ pub(crate) fn serve_in_turn<T: Served, R: Wait>(
     ) }
     ensures grows { GrowsBy caller call.now result seat.old.me.0.seen seat.new.me.0.seen }
     ensures legal { T.legal seat.old.me.0.place seat.new.me.0.seen }
+    ensures known_callers { CallersBelow seat.old.me.0.callers seat.new.me.0.seen }
     ensures sure { T.sure call.now → IsOk result }
 {
     let mut value = acquire(rt, table, seat);

@@ -3,7 +3,8 @@ ghost use Rattle.std.specs.Prelude.{◌≡◌, ℕ, ◌+◌, ◌<◌, List, ◌+
 ghost use Rattle.ch_base.specs.declared.entry.Entry.{Entry};
 ghost use Rattle.ch_base.specs.Growth.{NotBy};
 ghost use Rattle.ch_turn.specs.SeatStates.{Gathered};
-ghost use Rattle.ch_turn.specs.PassModels.{PassModel, GrowsByOthers, EachGrowsByOthers, IsWhole};
+ghost use Rattle.ch_turn.specs.Callers.{GrowsByOthers};
+ghost use Rattle.ch_turn.specs.PassModels.{PassModel, EachGrowsByOthers, AllInPlace, IsWhole};
 
 use crate::pass::Pass;
 use crate::pass_list::PassList;
@@ -21,7 +22,7 @@ pub struct Closed<T> {
 /// Takes over the seat of a pass, the next in order.
 fn take_over<T: Served>(table: &SharedTable<T>, seat: &mut LockSeat<T>, pass: Pass<T>)
     requires table { (seat.old.table_id ≡ table.now.table_id) × (table.now.table_id.words ≡ 3) }
-    requires own { pass.table ≡ table.now.table_id }
+    requires own { pass.lock.table ≡ table.now.table_id }
     requires gathered { Gathered seat.old.me.0 pass.caller }
     ensures table { seat.new.table_id ≡ seat.old.table_id }
     ensures gathered { Gathered seat.new.me.0 (pass.caller + 1) }
@@ -47,6 +48,7 @@ pub(crate) fn gather<T: Served>(table: &SharedTable<T>, mut passes: PassList<T>)
     ensures table { result.table_id ≡ table.now.table_id }
     ensures gathered { Gathered result.me.0 table.now.key.callers }
     ensures each { EachGrowsByOthers passes.slots result.me.0.seen }
+    ensures in_place { AllInPlace T.legal passes.lock passes.slots }
     ensures callers { (i : ℕ) (p : PassModel T.Call T.Answer)
         → slice_index_or passes.slots i None ≡ Some p → p.caller < table.now.key.callers }
 {

@@ -2,6 +2,7 @@
 ghost use Rattle.std.specs.Prelude.{◌≡◌, ◌⊎◌, ℕ, ◌+◌, ◌^◌, ◌<◌, ◌≤◌, [], length, slice_index_or, None, Some, IfOk, IsOk};
 ghost use mathlib.Core.List.{IsPrefix};
 ghost use Rattle.ch_base.specs.Growth.{GrowsBy};
+ghost use Rattle.ch_turn.specs.Callers.{CallersBelow};
 ghost use Rattle.ch_turn.specs.PassModels.{fresh_pass, IsWhole, HasHistory};
 
 use crate::call::serve_in_turn;
@@ -53,7 +54,7 @@ impl<T: Served> TurnLock<T> {
         ensures own { IfOk result (λ made. made.1.lock ≡ made.0) }
         ensures count { IfOk result (λ made. length made.1.slots ≡ callers) }
         ensures passes { IfOk result (λ made. (i : ℕ) → i < callers
-            → slice_index_or made.1.slots i None ≡ Some (fresh_pass made.0.table made.0.place i)) }
+            → slice_index_or made.1.slots i None ≡ Some (fresh_pass made.0 i)) }
     {
         let passes = Vec::with_capacity(alloc, callers as usize)?;
         let (table, seat) = lay_table(alloc, value, callers)?;
@@ -73,10 +74,11 @@ impl<T: Served> TurnLock<T> {
         pass: &mut Pass<T>,
         call: &T::Call,
     ) -> Result<T::Answer, Memory>
-        requires own { pass.old.table ≡ self.now.table }
-        requires fits { T.fits pass.old.place call.now }
+        requires own { pass.old.lock ≡ self.now }
+        requires fits { T.fits self.now.place call.now }
         ensures grows { GrowsBy pass.old.caller call.now result pass.old.seen pass.new.seen }
-        ensures legal { T.legal pass.old.place pass.new.seen }
+        ensures legal { T.legal self.now.place pass.new.seen }
+        ensures known_callers { CallersBelow self.now.callers pass.new.seen }
         ensures sure { T.sure call.now → IsOk result }
         ensures same { pass.new ≡ record pass.old { seen = pass.new.seen; calls = pass.old.calls + 1 } }
         ensures most { pass.new.calls ≤ 2 ^ 56 }
@@ -92,10 +94,11 @@ impl<T: Served> TurnLock<T> {
 
     /// Tells `pass` what `other` has seen. It neither waits nor takes memory.
     pub fn meet(&self, pass: &mut Pass<T>, other: &mut Pass<T>)
-        requires own { (pass.old.table ≡ self.now.table) × (other.old.table ≡ self.now.table) }
+        requires own { (pass.old.lock ≡ self.now) × (other.old.lock ≡ self.now) }
         ensures longer { (pass.new.seen ≡ pass.old.seen) ⊎ (pass.new.seen ≡ other.old.seen) }
         ensures prefixes { IsPrefix pass.old.seen pass.new.seen × IsPrefix other.old.seen pass.new.seen }
-        ensures legal { T.legal pass.old.place pass.new.seen }
+        ensures legal { T.legal self.now.place pass.new.seen }
+        ensures known_callers { CallersBelow self.now.callers pass.new.seen }
         ensures same { pass.new ≡ record pass.old { seen = pass.new.seen } }
         ensures other { other.new ≡ other.old }
     {
@@ -105,12 +108,12 @@ impl<T: Served> TurnLock<T> {
         shared.load::<Merge<T>>(&mut pass.seat, TICKET);
     }
 
-    /// The value, with the length of the one legal history that it stands for. The history begins with the list of
-    /// each pass, and after that has no entry of the pass's caller.
+    /// The value, with the length of the one legal history that it stands for: the longest of the passes' lists. It
+    /// begins with the list of each pass, has no entry of the pass's caller after that, and none of anyone else.
     pub fn close(self, passes: PassList<T>) -> Closed<T>
         requires own { passes.lock ≡ self }
         requires all { IsWhole passes }
-        ensures history { HasHistory T.legal T.stands self.place passes.slots result.value result.entries }
+        ensures history { HasHistory T.legal T.stands self passes.slots result.value result.entries }
         ensures place { T.place result.value ≡ self.place }
     {
         let TurnLock { table } = self;

@@ -2,7 +2,7 @@
 ghost use Rattle.std.specs.Prelude.{◌≡◌, ℕ, ◌<◌, ◌≤◌, [], length, slice_index_or, None, Some, IfOk, vec_capacity};
 ghost use Rattle.ch_turn.specs.Views.{first_view};
 ghost use Rattle.ch_turn.specs.SeatStates.{dealer_view};
-ghost use Rattle.ch_turn.specs.PassModels.{fresh_pass};
+ghost use Rattle.ch_turn.specs.PassModels.{lock_model, fresh_pass};
 
 use crate::pass::Pass;
 use crate::steps::Deal;
@@ -50,7 +50,8 @@ pub(crate) fn deal_passes<T: Served>(
     requires callers { (0 < callers) × (callers ≤ 64) }
     requires legal { T.legal seat.me.0.place [] }
     ensures count { length result.items ≡ callers }
-    ensures each { (i : ℕ) → i < callers → slice_index_or result.items i None ≡ Some (fresh_pass seat.table_id seat.me.0.place i) }
+    ensures each { (i : ℕ) → i < callers
+        → slice_index_or result.items i None ≡ Some (fresh_pass (lock_model seat.table_id callers seat.me.0.place) i) }
 {
     for caller in 0..callers - 1 {
         let own = table.split_seat::<Deal>(&mut seat);

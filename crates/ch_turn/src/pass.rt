@@ -1,5 +1,6 @@
 //! What a caller calls with.
 ghost use Rattle.std.specs.Prelude.{◌≡◌, ◌<◌};
+ghost use Rattle.ch_turn.specs.Callers.{CallersBelow};
 
 use crate::table::LockSeat;
 use ch_base::Served;
@@ -7,8 +8,7 @@ use std::marker::Model;
 
 /// The right to call as one caller, with the list of entries that the caller has seen.
 ///
-/// Contracts see the lock's table, the place of the lock's value, the caller number, the list and the number of calls
-/// that were made.
+/// Contracts see the lock, the caller number, the list and the number of calls that were made.
 #[derive(Drop)]
 pub struct Pass<T: Served> {
     pub(crate) seat: LockSeat<T>,
@@ -23,8 +23,7 @@ impl<T: Served> Model for Pass<T> {
     ghost Value = { PassModel T.Call T.Answer };
 
     ghost view = { λ p. record {
-      table = p.seat.table_id;
-      place = p.seat.me.0.place;
+      lock = record { table = p.seat.table_id; callers = p.seat.me.0.callers; place = p.seat.me.0.place };
       caller = p.caller;
       seen = p.seat.me.0.seen;
       calls = p.calls;
@@ -34,11 +33,13 @@ impl<T: Served> Model for Pass<T> {
 }
 
 impl<T: Served> Pass<T> {
-    /// The caller number. Whatever a pass has seen is legal at its place.
+    /// The caller number. Whatever a pass has seen is legal at the place of the lock's value, and is of the lock's
+    /// callers.
     pub fn caller(&self) -> u64
         ensures caller { result ≡ self.now.caller }
-        ensures below { result < 64 }
-        ensures legal { T.legal self.now.place self.now.seen }
+        ensures below { (result < self.now.lock.callers) × (result < 64) }
+        ensures legal { T.legal self.now.lock.place self.now.seen }
+        ensures known_callers { CallersBelow self.now.lock.callers self.now.seen }
     {
         self.caller
     }

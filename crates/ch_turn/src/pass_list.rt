@@ -43,7 +43,7 @@ impl<T: Served> PassList<T> {
 
     /// Puts a pass back at its number.
     pub fn give(&mut self, pass: Pass<T>)
-        requires own { (pass.table ≡ self.old.lock.table) × (pass.caller < self.old.lock.callers) }
+        requires own { pass.lock ≡ self.old.lock }
         requires empty { slice_index_or self.old.slots pass.caller None ≡ None }
         ensures { self.new ≡ record self.old { slots = slice_set self.old.slots pass.caller (Some pass) } }
     {

@@ -38,6 +38,8 @@ pub struct View<C, A> {
     pub told: LinkedList<Entry<C, A>>,
     /// The place of the value.
     pub place: (u64, u64),
+    /// How many callers the lock has.
+    pub callers: u64,
     /// Its caller numbers are those from `low` to below `high`.
     pub low: u64,
     pub high: u64,

@@ -59,8 +59,8 @@ fn count<R: Wait>(
     lock: &TurnLock<Tally>,
     mut pass: Pass<Tally>,
 ) -> Option<(Pass<Tally>, Vec<u64>)>
-    requires { pass.table ≡ lock.now.table }
-    ensures { IfSome result (λ r. (r.0.table ≡ pass.table) × (r.0.caller ≡ pass.caller)) }
+    requires { pass.lock ≡ lock.now }
+    ensures { IfSome result (λ r. (r.0.lock ≡ pass.lock) × (r.0.caller ≡ pass.caller)) }
 {
     let mut answers = Vec::new(alloc);
     for _ in 0..100 {
@@ -81,19 +81,19 @@ fn count_in_threads<R: Threads + Wait + Sync>(
     Option<(Pass<Tally>, Vec<u64>)>,
     Option<(Pass<Tally>, Vec<u64>)>,
 )
-    requires { (one.table ≡ lock.now.table) × (two.table ≡ lock.now.table) }
-    ensures one { IfSome result.0 (λ r. (r.0.table ≡ one.table) × (r.0.caller ≡ one.caller)) }
-    ensures two { IfSome result.1 (λ r. (r.0.table ≡ two.table) × (r.0.caller ≡ two.caller)) }
+    requires { (one.lock ≡ lock.now) × (two.lock ≡ lock.now) }
+    ensures one { IfSome result.0 (λ r. (r.0.lock ≡ one.lock) × (r.0.caller ≡ one.caller)) }
+    ensures two { IfSome result.1 (λ r. (r.0.lock ≡ two.lock) × (r.0.caller ≡ two.caller)) }
 {
     join(
         rt,
         move || -> Option<(Pass<Tally>, Vec<u64>)>
-            requires { one.table ≡ lock.now.table }
-            ensures { IfSome result (λ r. (r.0.table ≡ one.table) × (r.0.caller ≡ one.caller)) }
+            requires { one.lock ≡ lock.now }
+            ensures { IfSome result (λ r. (r.0.lock ≡ one.lock) × (r.0.caller ≡ one.caller)) }
         { count(rt, alloc, lock, one) },
         move || -> Option<(Pass<Tally>, Vec<u64>)>
-            requires { two.table ≡ lock.now.table }
-            ensures { IfSome result (λ r. (r.0.table ≡ two.table) × (r.0.caller ≡ two.caller)) }
+            requires { two.lock ≡ lock.now }
+            ensures { IfSome result (λ r. (r.0.lock ≡ two.lock) × (r.0.caller ≡ two.caller)) }
         { count(rt, alloc, lock, two) },
     )
 }

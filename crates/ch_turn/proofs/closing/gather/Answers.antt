@@ -35,3 +35,7 @@ returns-clause-callers g c = λ i p at.
     let below = who.0 in
     let is = who.1 in
     let callers = c.requires.own.1 in omega arith
+
+pub returns-clause-in_place : goal.returns-clause-in_place
+returns-clause-in_place g c =
+    subst (λ (l : PassListModel g.row.T-Call.Denot g.row.T-Answer.Denot). AllInPlace g.T.Served.legal l.lock l.slots) c.passes.view_is c.passes.invariant.1

@@ -1,6 +1,7 @@
 use Rattle.std.proofs.Common.{◌≡◌, ℕ, ◌<◌, ◌≤◌, slice_index_or, None, Some}
 use Rattle.ch_turn.specs.SeatStates.{Gathered}
-use Rattle.ch_turn.specs.PassModels.{PassModel, GrowsByOthers}
+use Rattle.ch_turn.specs.Callers.{GrowsByOthers}
+use Rattle.ch_turn.specs.PassModels.{PassModel}
 use Rattle.ch_turn.proofs.closing.gather.Given as goal
 
 -- the passes below i are taken over, and the others are still there

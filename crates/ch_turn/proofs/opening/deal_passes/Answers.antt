@@ -1,6 +1,6 @@
-use Rattle.std.proofs.Common.{rules, ◌≡◌, ◌<◌, [], Some, ap, sym, ◌∙◌, arith}
+use Rattle.std.proofs.Common.{rules, ◌≡◌, ◌<◌, Some, ap, sym, ◌∙◌, arith}
 use Rattle.ch_turn.specs.Views.{after_dealing}
-use Rattle.ch_turn.specs.PassModels.{PassModel}
+use Rattle.ch_turn.specs.PassModels.{PassModel, lock_model, fresh_pass}
 use Rattle.ch_turn.proofs.SeatSteps.{deal_keeps}
 use Rattle.ch_turn.proofs.PassLists.{push_each}
 use Rattle.ch_turn.proofs.opening.deal_passes.Goals as goal
@@ -21,6 +21,6 @@ loop-caller-preserved g c =
       did.2 ∙ ap (λ m. (after_dealing m.0, m.1)) is,
       search rules,
       search rules,
-      push_each (λ j. let p : PassModel g.row.T-Call.Denot g.row.T-Answer.Denot = record { table = c.args.seat.table_id; place = c.args.seat.me.0.place; caller = j; seen = []; calls = 0 } in Some p) c.loop-caller.passes.items c.push_reserved.new.self.items c.loop-caller.caller _ c.push_reserved.ensures.items (search rules) c.loop-caller.invariant.4
-          (λ k. let p : PassModel g.row.T-Call.Denot g.row.T-Answer.Denot = record { table = (did.3 ∙ c.loop-caller.invariant.0) k; place = (ap (λ m. m.0.place) did.4 ∙ ap (λ m. m.0.place) is) k; caller = c.loop-caller.caller; seen = (ap (λ m. m.0.seen) did.4 ∙ ap (λ m. m.0.seen) is) k; calls = 0 } in Some p),
+      push_each (λ j. let p : PassModel g.row.T-Call.Denot g.row.T-Answer.Denot = fresh_pass (lock_model c.args.seat.table_id c.args.callers c.args.seat.me.0.place) j in Some p) c.loop-caller.passes.items c.push_reserved.new.self.items c.loop-caller.caller _ c.push_reserved.ensures.items (search rules) c.loop-caller.invariant.4
+          (λ k. let p : PassModel g.row.T-Call.Denot g.row.T-Answer.Denot = record { lock = lock_model ((did.3 ∙ c.loop-caller.invariant.0) k) ((ap (λ m. m.0.callers) did.4 ∙ ap (λ m. m.0.callers) is) k) ((ap (λ m. m.0.place) did.4 ∙ ap (λ m. m.0.place) is) k); caller = c.loop-caller.caller; seen = (ap (λ m. m.0.seen) did.4 ∙ ap (λ m. m.0.seen) is) k; calls = 0 } in Some p),
     )

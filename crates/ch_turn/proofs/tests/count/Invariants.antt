@@ -2,4 +2,4 @@ use Rattle.std.proofs.Common.{◌≡◌}
 use Rattle.ch_turn.proofs.tests.count.Given as goal
 
 abbrev pub invariant-loop : goal.invariant-loop
-invariant-loop g l = (l.pass.table ≡ l.initial.pass.table) × (l.pass.caller ≡ l.initial.pass.caller) × (l.pass.place ≡ l.initial.pass.place)
+invariant-loop g l = (l.pass.lock ≡ l.initial.pass.lock) × (l.pass.caller ≡ l.initial.pass.caller)
