@@ -1,3 +1,4 @@
 pub mod Faults
 pub mod KindMeaning
+pub mod SocketIdExamples
 pub mod SocketIds

@@ -6,15 +6,15 @@
 
 mod channel_kind;
 mod channel_name;
+mod examples;
 mod fault;
 mod placement;
 mod socket_id;
-#[cfg(test)]
-mod tests;
 mod user_name;
 
 pub use channel_kind::Kind;
 pub use channel_name::{event_name, kind};
+pub use examples::examples_hold;
 pub use fault::NameFault;
 pub use placement::shard_of;
 pub use socket_id::{SocketId, socket_number};

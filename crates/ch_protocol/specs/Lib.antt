@@ -8,7 +8,11 @@ pub mod ClientMessages
 pub mod ChannelData
 pub mod UserDataText
 pub mod Readings
+pub mod Asks
 pub mod Settling
+pub mod Shards
 pub mod Sessions
 pub mod Targets
 pub mod Examples
+pub mod SessionExamples
+pub mod TargetExamples

@@ -13,5 +13,5 @@ mod heard;
 
 pub use ask::{AnswerList, Ask, AskList, Made};
 pub use client_message::{ClientMessage, UserData};
-pub use examples::examples_hold;
+pub use examples::{examples_hold, session_examples_hold, target_examples_hold};
 pub use heard::{Heard, Settled};

@@ -1,2 +1,4 @@
 pub mod Quiet
+pub mod QuietExamples
 pub mod Rate
+pub mod RateExamples

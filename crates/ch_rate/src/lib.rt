@@ -6,10 +6,9 @@
 #![tactic(auto)]
 
 mod activity;
+mod examples;
 mod rate;
 
 pub use activity::{Activity, Due};
+pub use examples::examples_hold;
 pub use rate::Rate;
-
-#[cfg(test)]
-mod tests;

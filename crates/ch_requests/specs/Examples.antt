@@ -1,12 +1,14 @@
 -- Paths, heads and replies, as a check of the definitions' text.
-use Rattle.std.specs.Prelude.{◌≡◌, ℕ, true, false, List, [], ◌∷◌, codes, Option, Some, None}
+use Rattle.std.specs.Prelude.{◌≡◌, ℕ, true, false, List, [], ◌∷◌, codes, Option, Some, None, Result, Ok, Err}
 use Rattle.ch_base.specs.declared.channel.ChanAnswer.TheVariants.{Sent, Rows, Looked, Ids}
 use Rattle.ch_protocol.specs.declared.ask.Made.TheVariants.{Chan}
 use Rattle.ch_requests.specs.Fields.{lists, body_length, missing, bad, is}
+use Rattle.ch_requests.specs.Handshakes.{accept_value, handshake_key, shake_refusal}
 use Rattle.ch_sig.specs.declared.query.Param.{Param}
 use Rattle.ch_requests.specs.Queries.{has_double}
 use Rattle.ch_requests.specs.Replies.{body_of, refusal, reply_text}
 use Rattle.ch_requests.specs.Routes.{route_of}
+use Rattle.ch_requests.specs.declared.head.Head.{Head}
 use Rattle.ch_requests.specs.declared.head.HeadField.{HeadField}
 use Rattle.ch_requests.specs.declared.plan.ReplyForm.TheVariants.{Empty, Triggered, Channels as ChannelsForm, Channel as ChannelForm, Users}
 use Rattle.ch_requests.specs.declared.request.Route.{Route}
@@ -58,3 +60,37 @@ pub record Bodies : Type 0 where
   pub users : body_of Users (Chan (Ids (codes "u" ∷ codes "v" ∷ [])) ∷ []) ≡ codes "{\"users\":[{\"id\":\"u\"},{\"id\":\"v\"}]}"
   pub refused : reply_text (refusal 401)
       ≡ codes "HTTP/1.1 401 Unauthorized\r\nContent-Type: application/json\r\nContent-Length: 24\r\nConnection: close\r\n\r\n{\"error\":\"unauthorized\"}"
+
+-- the key of the worked handshake of RFC 6455, section 1.3
+abbrev pub worked_key : List ℕ
+worked_key = codes "dGhlIHNhbXBsZSBub25jZQ=="
+
+abbrev pub connection : HeadField
+connection = field (codes "Connection") (codes "keep-alive, Upgrade")
+
+abbrev pub key : List ℕ → HeadField
+key value = field (codes "Sec-WebSocket-Key") value
+
+abbrev pub version : List ℕ → HeadField
+version value = field (codes "Sec-WebSocket-Version") value
+
+-- what a head of HTTP/1.minor with these fields asks for
+abbrev pub asked : ℕ → List HeadField → Result (List ℕ) ℕ
+asked minor fields =
+    handshake_key (record { method = codes "GET"; target = codes "/app/k"; minor = minor; fields = fields; used = 0 })
+
+pub record Handshakes : Type 0 where
+  pub value : accept_value worked_key ≡ codes "s3pPLMBiTxaQ9kYGzzhZRbK+xOo="
+  pub accepted : asked 1 (connection ∷ key worked_key ∷ version (codes "13") ∷ []) ≡ Ok worked_key
+  pub older : asked 0 (connection ∷ key worked_key ∷ version (codes "13") ∷ []) ≡ Err 400
+  pub not_connected : asked 1 (key worked_key ∷ version (codes "13") ∷ []) ≡ Err 400
+  pub no_key : asked 1 (connection ∷ version (codes "13") ∷ []) ≡ Err 400
+  pub two_keys : asked 1 (connection ∷ key worked_key ∷ key worked_key ∷ version (codes "13") ∷ []) ≡ Err 400
+  pub short_key : asked 1 (connection ∷ key (codes "MTIzNDU2Nzg5MDEyMzQ1") ∷ version (codes "13") ∷ []) ≡ Err 400
+  pub not_padded : asked 1 (connection ∷ key (codes "dGhlIHNhbXBsZSBub25jZQ") ∷ version (codes "13") ∷ []) ≡ Err 400
+  pub key_before_version : asked 1 (connection ∷ version (codes "12") ∷ []) ≡ Err 400
+  pub other_version : asked 1 (connection ∷ key worked_key ∷ version (codes "12") ∷ []) ≡ Err 426
+  pub no_version : asked 1 (connection ∷ key worked_key ∷ []) ≡ Err 426
+  pub two_versions : asked 1 (connection ∷ key worked_key ∷ version (codes "13") ∷ version (codes "13") ∷ []) ≡ Err 426
+  pub version_told : shake_refusal 426
+      ≡ codes "HTTP/1.1 426 Upgrade Required\r\nContent-Type: application/json\r\nContent-Length: 31\r\nSec-WebSocket-Version: 13\r\nConnection: close\r\n\r\n{\"error\":\"version 13 required\"}"

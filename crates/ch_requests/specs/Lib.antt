@@ -7,5 +7,8 @@ pub mod Authorization
 pub mod Triggers
 pub mod Fit
 pub mod Replies
+pub mod Handshakes
 pub mod Plans
 pub mod Examples
+pub mod AuthorizationExamples
+pub mod PlanExamples

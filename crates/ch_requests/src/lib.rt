@@ -2,17 +2,20 @@
 //! API; RFC 9112).
 //!
 //! A crate of definitions, with no body of the program. `specs/` says which bytes are which request, which request is
-//! authorized, which events a body triggers, which calls on shards a request asks for, and what it is answered.
+//! authorized, which events a body triggers, which calls on shards a request asks for, and what it and a handshake are
+//! answered.
 #![tactic(auto)]
 
 mod examples;
+mod handshake;
 mod head;
 mod plan;
 mod reply;
 mod request;
 mod trigger;
 
-pub use examples::examples_hold;
+pub use examples::{authorization_examples_hold, examples_hold, plan_examples_hold};
+pub use handshake::Shake;
 pub use head::{FieldList, Head, HeadField};
 pub use plan::{Counted, CountedList, Plan, Planned, ReplyForm, Wanted};
 pub use reply::Reply;

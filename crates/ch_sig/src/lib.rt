@@ -10,8 +10,6 @@ mod digest;
 mod hmac;
 mod query;
 mod signature;
-#[cfg(test)]
-mod tests;
 
 pub use authorization::matches;
 pub use digest::md5_hex;
