@@ -1,3 +1,4 @@
+pub mod Computed
 pub mod NumberLemmas
 pub mod PartLemmas
 pub mod ReadLemmas

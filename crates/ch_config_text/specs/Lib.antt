@@ -1,5 +1,7 @@
 pub mod Addresses
+pub mod BuiltIn
 pub mod Config
+pub mod ConfigExamples
 pub mod Fields
 pub mod Judging
 pub mod Numbers

@@ -6,6 +6,8 @@
 #![tactic(auto)]
 
 mod address;
+mod built_in;
+mod examples;
 mod fault;
 mod field;
 mod number;
@@ -14,9 +16,8 @@ mod reading;
 mod target;
 mod value;
 
+pub use built_in::built_in_text;
+pub use examples::examples_hold;
 pub use fault::ConfigFault;
 pub use field::Field;
 pub use reading::read_config;
-
-#[cfg(test)]
-mod tests;
