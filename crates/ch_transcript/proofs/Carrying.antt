@@ -5,7 +5,8 @@ use Rattle.std.proofs.lemmas.Bool.{le-ltb, lt-ltb}
 use Rattle.ch_config.specs.declared.config.Config.{Config}
 use Rattle.ch_transcript.specs.Lines.{longest_line, has_line_end, lines_of, whole_lines}
 use Rattle.ch_transcript.specs.Printing.{error_line, long_line}
-use Rattle.ch_transcript.specs.Transcript.{Progress, beginning, Played, Plays, Outcome, ends, after_text, Follows, OutcomeFrom, HasOutcome}
+use Rattle.ch_transcript.specs.Outcomes.{Plays, Outcome, ends, after_text, Follows, OutcomeFrom, HasOutcome}
+use Rattle.ch_transcript.specs.Progress.{Progress, beginning, Played}
 use Rattle.ch_transcript.proofs.LineLemmas.{lines_of-line, lines_of-begun, lines_of-last, whole_lines-end, whole_lines-none}
 
 -- these whole lines have written this, and come so far: the next line is the nth

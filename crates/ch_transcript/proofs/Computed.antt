@@ -8,6 +8,7 @@ use Rattle.ch_base.specs.Escape.{escaped_byte}
 use Rattle.ch_protocol.specs.ErrorTexts.{error_text}
 use Rattle.ch_protocol.specs.Events.{quoted}
 use Rattle.ch_transcript.specs.Examples.{Lines, OnePublish, Excepted}
+use Rattle.ch_transcript.specs.RoundExamples.{Killed, Ticks, Others}
 
 pub lines : Lines
 unfolding is_utf8 chars encode_utf8 digits decode_pairs
@@ -42,3 +43,32 @@ one_publish = refl
 pub excepted : Excepted
 unfolding digits escaped_byte quoted
 excepted = refl
+
+pub killed : Killed
+unfolding digits escaped_byte quoted error_text
+killed = record {
+  text = refl;
+  sockets = refl;
+}
+
+pub ticks : Ticks
+unfolding digits escaped_byte quoted error_text
+ticks = record {
+  early = refl;
+  ping = refl;
+  is_out = refl;
+  waits = refl;
+  ends = refl;
+  is_ended = refl;
+}
+
+pub others : Others
+unfolding digits escaped_byte quoted error_text
+others = record {
+  opened = refl;
+  is_open = refl;
+  refused = refl;
+  refused_counts = refl;
+  tail = refl;
+  no_shard = refl;
+}

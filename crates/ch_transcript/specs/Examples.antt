@@ -6,7 +6,9 @@ use Rattle.ch_protocol.specs.declared.client_message.ClientMessage.TheVariants.{
 use Rattle.ch_requests.specs.declared.request.Look.TheVariants.{Need}
 use Rattle.ch_transcript.specs.Commands.{line_of}
 use Rattle.ch_transcript.specs.Printing.{line_end}
-use Rattle.ch_transcript.specs.Transcript.{Progress, Played, Sense, Socket, played_as}
+use Rattle.ch_transcript.specs.Obeying.{Sense}
+use Rattle.ch_transcript.specs.Outcomes.{played_as}
+use Rattle.ch_transcript.specs.Progress.{Progress, Played, Socket}
 use Rattle.ch_transcript.specs.declared.commands.Command.TheVariants.{Open, Say, Join, Publish, Lose, Api, Http}
 use Rattle.ch_transcript.specs.declared.commands.Method.TheVariants.{Get, Post}
 use Rattle.ch_transcript.specs.declared.commands.Line.{Line}

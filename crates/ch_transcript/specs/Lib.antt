@@ -3,6 +3,12 @@ pub mod Commands
 pub mod Printing
 pub mod Joining
 pub mod Requests
-pub mod Transcript
+pub mod Progress
+pub mod Turns
+pub mod Exchanges
+pub mod Obeying
+pub mod Rounds
+pub mod Outcomes
 pub mod Replayed
 pub mod Examples
+pub mod RoundExamples

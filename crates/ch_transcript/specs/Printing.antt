@@ -1,5 +1,5 @@
 -- The lines that a replay prints. The start second, the first part of each socket id, is 1.
-use Rattle.std.specs.Prelude.{ℕ, ◌-◌, List, [], ◌∷◌, ◌++◌, codes, drop, length, map}
+use Rattle.std.specs.Prelude.{ℕ, ◌-◌, List, [], ◌∷◌, ◌++◌, codes, drop, length, map, Result, Ok, Err}
 use Rattle.std.specs.Fmt.{decimal}
 use Rattle.ch_base.specs.declared.channel.ChanAnswer.{ChanAnswer}
 use Rattle.ch_base.specs.declared.channel.ChanAnswer.TheVariants.{Sent}
@@ -9,6 +9,7 @@ use Rattle.ch_base.specs.declared.frame.Frame.{Frame}
 use Rattle.ch_base.specs.declared.frame.Frame.TheVariants.{Error}
 use Rattle.ch_history.specs.Entries.{ChanHistory}
 use Rattle.ch_protocol.specs.Printed.{printed}
+use Rattle.ch_requests.specs.Replies.{refusal}
 use Rattle.ch_requests.specs.declared.reply.Reply.{Reply}
 
 abbrev pub start_second : ℕ
@@ -66,6 +67,11 @@ tail_line h = codes "tail " ++ map (λ e. letter_of e.call) (drop (length h - lo
 -- the reply to a request
 abbrev pub reply_line : Reply → List ℕ
 reply_line reply = codes "http " ++ decimal reply.status ++ codes " " ++ reply.body ++ line_end
+
+-- the line of a handshake that is accepted by its key, or refused with a status
+abbrev pub shake_line : Result (List ℕ) ℕ → List ℕ
+shake_line (Ok key) = codes "http 101" ++ line_end
+shake_line (Err status) = reply_line (refusal status)
 
 -- more bytes of a request are wanted
 abbrev pub need_line : List ℕ

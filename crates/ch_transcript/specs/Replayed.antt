@@ -6,7 +6,7 @@ use Rattle.ch_transcript.specs.declared.ending.Ending.TheVariants.{Done, NotALin
 use Rattle.ch_transcript.specs.Lines.{whole_lines}
 use Rattle.ch_transcript.specs.Printing.{error_line, long_line}
 use Rattle.ch_config.specs.declared.config.Config.{Config}
-use Rattle.ch_transcript.specs.Transcript.{HasOutcome, ends}
+use Rattle.ch_transcript.specs.Outcomes.{HasOutcome, ends}
 
 abbrev pub IsPrefix : List ℕ → List ℕ → Type 0
 IsPrefix xs ys = (more : List ℕ) × (ys ≡ xs ++ more)

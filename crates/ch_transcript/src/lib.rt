@@ -8,7 +8,9 @@
 mod commands;
 mod ending;
 mod examples;
+mod start;
 
 pub use commands::{Command, Line, Method};
 pub use ending::Ending;
-pub use examples::examples_hold;
+pub use examples::{examples_hold, round_examples_hold};
+pub use start::START_SECOND;
