@@ -1,5 +1,5 @@
 -- What a read of a source gives.
-use Rattle.std.specs.Prelude.{ℕ, ◌<◌, ◌≤◌, List, [], length, take}
+use Rattle.std.specs.Prelude.{ℕ, ◌<◌, ◌≤◌, List, [], Option, length, take}
 use Rattle.ch_io.specs.declared.source.Got.{Got}
 use Rattle.ch_io.specs.declared.source.Got.TheVariants.{Read, Ended, Failed}
 
@@ -14,3 +14,9 @@ abbrev pub IsWithin : Got → List ℕ → Type 0
 IsWithin (Read n) buf = (0 < n) × (n ≤ length buf)
 IsWithin Ended buf = Unit {0}
 IsWithin Failed buf = Unit {0}
+
+-- what a source tells: the bytes that are left, where they are known, the count of faults, and how many more it gives at most
+pub record SourceTold : Type 0 where
+  pub left : Option (List ℕ)
+  pub faults : ℕ
+  pub limit : ℕ

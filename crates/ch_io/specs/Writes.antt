@@ -1,5 +1,5 @@
 -- What a write to a sink takes.
-use Rattle.std.specs.Prelude.{ℕ, ◌<◌, ◌≤◌, List, [], length, take}
+use Rattle.std.specs.Prelude.{ℕ, ◌<◌, ◌≤◌, List, [], Option, length, take}
 use Rattle.ch_io.specs.declared.sink.Wrote.{Wrote as Answer}
 use Rattle.ch_io.specs.declared.sink.Wrote.TheVariants.{Wrote, Failed}
 
@@ -12,3 +12,8 @@ taken Failed bytes = []
 abbrev pub IsPart : Answer → List ℕ → Type 0
 IsPart (Wrote n) bytes = (0 < n) × (n ≤ length bytes)
 IsPart Failed bytes = Unit {0}
+
+-- what a sink tells: the bytes that it holds, where they are known, and the count of faults
+pub record SinkTold : Type 0 where
+  pub held : Option (List ℕ)
+  pub faults : ℕ

@@ -14,18 +14,19 @@ pub struct MemSink {
 }
 
 impl Model for MemSink {
-    ghost use Rattle.ch_io.specs.Mem.{Taking};
+    ghost use Rattle.std.specs.Prelude.{Some};
+    ghost use Rattle.ch_io.specs.Writes.{SinkTold};
 
-    ghost Value = { Taking };
+    ghost Value = { SinkTold };
 
-    ghost view = { λ s. record { gained = s.bytes.items; faults = s.faults } };
+    ghost view = { λ s. record { held = Some s.bytes.items; faults = s.faults } };
 }
 
 impl MemSink {
     /// An empty sink, whose writes go by a [`Schedule`] of these sizes and failing numbers. A write
     /// that finds no memory fails too.
     pub fn new(alloc: Global, pieces: Vec<usize>, failing: Vec<usize>) -> MemSink
-        ensures { result ≡ record { gained = []; faults = 0 } }
+        ensures { result ≡ record { held = Some []; faults = 0 } }
     {
         MemSink {
             bytes: Vec::new(alloc),
@@ -36,14 +37,14 @@ impl MemSink {
 
     /// The bytes that it holds.
     pub fn as_slice(&self) -> &[u8]
-        ensures { result.now ≡ self.now.gained }
+        ensures { Some result.now ≡ self.now.held }
     {
         self.bytes.as_slice()
     }
 }
 
 impl Sink for MemSink {
-    ghost told = { λ s. Some s.gained };
+    ghost told = { λ s. s.held };
 
     ghost faults = { λ s. s.faults };
 

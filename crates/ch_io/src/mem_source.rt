@@ -17,12 +17,12 @@ pub struct MemSource {
 }
 
 impl Model for MemSource {
-    ghost use Rattle.std.specs.Prelude.{◌≤◌, ◌^◌, drop, vec_len};
-    ghost use Rattle.ch_io.specs.Mem.{Giving};
+    ghost use Rattle.std.specs.Prelude.{◌≤◌, ◌^◌, Some, drop, vec_len};
+    ghost use Rattle.ch_io.specs.Reads.{SourceTold};
 
-    ghost Value = { Giving };
+    ghost Value = { SourceTold };
 
-    ghost view = { λ s. record { left = drop s.at s.bytes.items; faults = s.faults; limit = s.limit } };
+    ghost view = { λ s. record { left = Some (drop s.at s.bytes.items); faults = s.faults; limit = s.limit } };
 
     ghost invariant = { λ s. (s.at ≤ vec_len s.bytes) × (s.limit ≤ 2 ^ 62) };
 }
@@ -30,7 +30,7 @@ impl Model for MemSource {
 impl MemSource {
     /// A source of these bytes, whose reads go by a [`Schedule`] of these sizes and failing numbers.
     pub fn new(bytes: Vec<u8>, pieces: Vec<usize>, failing: Vec<usize>) -> MemSource
-        ensures { result ≡ record { left = bytes.items; faults = 0; limit = 2 ^ 62 } }
+        ensures { result ≡ record { left = Some bytes.items; faults = 0; limit = 2 ^ 62 } }
     {
         MemSource {
             bytes,
@@ -43,11 +43,11 @@ impl MemSource {
 }
 
 impl Source for MemSource {
-    ghost left = { λ s. Some s.left };
+    ghost left = { λ s. s.left };
 
     ghost faults = { λ s. s.faults };
 
-    ghost use Rattle.std.specs.Prelude.{◌^◌, Some, min};
+    ghost use Rattle.std.specs.Prelude.{◌^◌, min};
     ghost use Rattle.std.proofs.Common.{arith};
 
     ghost limit = { λ s. min s.limit (2 ^ 62) };
