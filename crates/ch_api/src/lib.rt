@@ -24,10 +24,3 @@ pub use finishing::finish;
 pub use planning::plan;
 pub use refusals::{REPLY_503, refusal, whole_refusal_holds};
 pub use reply_text::reply_bytes;
-
-#[cfg(test)]
-mod authorization_tests;
-#[cfg(test)]
-mod event_tests;
-#[cfg(test)]
-mod reply_tests;

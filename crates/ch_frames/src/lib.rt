@@ -28,8 +28,3 @@ pub use printed_law::printed_tells_event;
 pub use printing::print;
 pub use refused::{Refused, Unread};
 pub use user::user_of;
-
-#[cfg(test)]
-mod reading_tests;
-#[cfg(test)]
-mod tests;

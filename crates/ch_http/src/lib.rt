@@ -18,9 +18,7 @@ mod target;
 mod verdict;
 
 pub use ch_requests::{FieldList, Head, HeadField, Look, Request, Route};
+pub use field::{field_lists, has_field, is_named};
 pub use laws::{head_within, one_verdict, verdict_stays};
 pub use query::{Query, read_query};
 pub use reader::RequestReader;
-
-#[cfg(test)]
-mod tests;

@@ -19,6 +19,3 @@ pub use members::{
 pub use object::{document_of, is_plain_object, object_of};
 pub use strings::{first_places, strings_of};
 pub use values::{array_at, object_at, optional_at, string_at};
-
-#[cfg(test)]
-mod tests;

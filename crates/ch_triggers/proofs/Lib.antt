@@ -4,3 +4,4 @@ pub mod ChannelsOf
 pub mod EventsOf
 pub mod BodiesOf
 pub mod FitOf
+pub mod OneReading
