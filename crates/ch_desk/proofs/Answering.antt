@@ -5,6 +5,7 @@ use Rattle.ch_base.specs.Growth.{entry, GrowsBy}
 use Rattle.ch_base.specs.declared.memory.Memory.{Memory}
 use Rattle.ch_base.specs.declared.channel.ChanCall.{ChanCall}
 use Rattle.ch_base.specs.declared.channel.ChanAnswer.{ChanAnswer}
+use Rattle.ch_history.specs.Alone.{with_call}
 use Rattle.ch_history.specs.Entries.{ChanHistory, called}
 use Rattle.ch_history.specs.Answers.{answer_of}
 use Rattle.ch_history.specs.WellFormed.{IsWellFormed}
@@ -13,14 +14,16 @@ use Rattle.ch_history.proofs.Legal.{IsLegal-last}
 use Rattle.ch_history.proofs.Placement.{IsLegalAt-push}
 use Rattle.ch_shard.specs.Kept.{Kept}
 use Rattle.ch_shard.specs.Stands.{Stands}
-use Rattle.ch_desk.specs.Alone.{answered, answered_all, history_of, IsNext}
+use Rattle.ch_desk.specs.OwnEntries.{AreBy}
+use Rattle.ch_desk.proofs.OwnEntries.{AreBy-push}
+use Rattle.ch_desk.specs.Alone.{answered_all, history_of, IsNext}
 
 -- one more call at the end is the next one of the history
-answered_all-push : (h : ChanHistory) (calls : List ChanCall) (call : ChanCall) → answered_all h (calls ++ call ∷ []) ≡ answered (answered_all h calls) call
+answered_all-push : (h : ChanHistory) (calls : List ChanCall) (call : ChanCall) → answered_all h (calls ++ call ∷ []) ≡ with_call (answered_all h calls) call
 answered_all-push h [] call = refl
-answered_all-push h (x ∷ calls) call = answered_all-push (answered h x) calls call
+answered_all-push h (x ∷ calls) call = answered_all-push (with_call h x) calls call
 
-pub history_of-push : (calls : List ChanCall) (call : ChanCall) → history_of (calls ++ call ∷ []) ≡ answered (history_of calls) call
+pub history_of-push : (calls : List ChanCall) (call : ChanCall) → history_of (calls ++ call ∷ []) ≡ with_call (history_of calls) call
 history_of-push calls call = answered_all-push [] calls call
 
 -- what a shard answers is what the definitions say
@@ -53,3 +56,8 @@ pub seat_next : (shard : Kept) (calls now : List ChanCall) (old : ChanHistory) (
 seat_next shard calls now old call a stands is view =
     let P : ChanHistory → Type 0 = λ h. IsNext h (history_of now) call (Ok a) in
     subst P view record { answer = is_answer shard (history_of calls) call a stands; grown = ap history_of is ∙ history_of-push calls call; still = tt }
+
+-- a history stays one of caller 0 alone
+pub next_alone : (old new : ChanHistory) (call : ChanCall) (r : Result ChanAnswer Memory) → IsNext old new call r → AreBy 0 old → AreBy 0 new
+next_alone old new call (Ok a) next was = subst (AreBy 0) (sym next.grown) (AreBy-push 0 old (entry 0 call (answer_of old 0 call)) refl was)
+next_alone old new call (Err m) next was = subst (AreBy 0) (sym next.still) was

@@ -5,6 +5,7 @@ use Rattle.ch_base.specs.Growth.{entry, GrowsBy}
 use Rattle.ch_base.specs.declared.memory.Memory.{Memory}
 use Rattle.ch_base.specs.declared.user.UserCall.{UserCall}
 use Rattle.ch_base.specs.declared.user.UserAnswer.{UserAnswer}
+use Rattle.ch_history.specs.Alone.{with_user_call}
 use Rattle.ch_history.specs.Entries.{UserHistory, called}
 use Rattle.ch_history.specs.UserAnswers.{user_answer_of}
 use Rattle.ch_history.specs.UserLegal.{IsUserWellFormed}
@@ -13,14 +14,16 @@ use Rattle.ch_history.proofs.UserLegal.{IsUserLegal-last}
 use Rattle.ch_history.proofs.Placement.{IsUserLegalAt-push}
 use Rattle.ch_ushard.specs.Kept.{Kept}
 use Rattle.ch_ushard.specs.Stands.{Stands}
-use Rattle.ch_desk.specs.UserAlone.{user_answered, user_answered_all, user_history_of, IsUserNext}
+use Rattle.ch_desk.specs.OwnEntries.{AreBy}
+use Rattle.ch_desk.proofs.OwnEntries.{AreBy-push}
+use Rattle.ch_desk.specs.UserAlone.{user_answered_all, user_history_of, IsUserNext}
 
 -- one more call at the end is the next one of the history
-user_answered_all-push : (h : UserHistory) (calls : List UserCall) (call : UserCall) → user_answered_all h (calls ++ call ∷ []) ≡ user_answered (user_answered_all h calls) call
+user_answered_all-push : (h : UserHistory) (calls : List UserCall) (call : UserCall) → user_answered_all h (calls ++ call ∷ []) ≡ with_user_call (user_answered_all h calls) call
 user_answered_all-push h [] call = refl
-user_answered_all-push h (x ∷ calls) call = user_answered_all-push (user_answered h x) calls call
+user_answered_all-push h (x ∷ calls) call = user_answered_all-push (with_user_call h x) calls call
 
-pub user_history_of-push : (calls : List UserCall) (call : UserCall) → user_history_of (calls ++ call ∷ []) ≡ user_answered (user_history_of calls) call
+pub user_history_of-push : (calls : List UserCall) (call : UserCall) → user_history_of (calls ++ call ∷ []) ≡ with_user_call (user_history_of calls) call
 user_history_of-push calls call = user_answered_all-push [] calls call
 
 -- what a shard answers is what the definitions say
@@ -53,3 +56,8 @@ pub user_seat_next : (shard : Kept) (calls now : List UserCall) (old : UserHisto
 user_seat_next shard calls now old call a stands is view =
     let P : UserHistory → Type 0 = λ h. IsUserNext h (user_history_of now) call (Ok a) in
     subst P view record { answer = user_is_answer shard (user_history_of calls) call a stands; grown = ap user_history_of is ∙ user_history_of-push calls call; still = tt }
+
+-- a history stays one of caller 0 alone
+pub user_next_alone : (old new : UserHistory) (call : UserCall) (r : Result UserAnswer Memory) → IsUserNext old new call r → AreBy 0 old → AreBy 0 new
+user_next_alone old new call (Ok a) next was = subst (AreBy 0) (sym next.grown) (AreBy-push 0 old (entry 0 call (user_answer_of old 0 call)) refl was)
+user_next_alone old new call (Err m) next was = subst (AreBy 0) (sym next.still) was

@@ -2,6 +2,8 @@
 use Rattle.std.specs.Prelude.{ℕ, ◌≤◌, ◌<◌, List, [], length, slice_index_or}
 use Rattle.ch_history.specs.Entries.{ChanHistory, UserHistory}
 use Rattle.ch_history.specs.Placement.{IsLegalAt, IsUserLegalAt}
+use Rattle.ch_desk.specs.OwnEntries.{AreBy}
+use Rattle.ch_desk.specs.Views.{DeskView}
 
 -- the history of each channel shard, and of each user shard
 pub record BenchModel : Type 0 where
@@ -16,7 +18,17 @@ seen bench k = slice_index_or bench.shards k []
 abbrev pub seen_user : BenchModel → ℕ → UserHistory
 seen_user bench k = slice_index_or bench.users k []
 
--- there are 1 to 64 shards of each kind, and each history is a legal one of its shard
+-- a bench as a desk: that of caller 0
+abbrev pub view_of : BenchModel → DeskView
+view_of bench = record {
+  caller = 0;
+  chan_shards = length bench.shards;
+  user_shards = length bench.users;
+  chans = seen bench;
+  users = seen_user bench;
+}
+
+-- there are 1 to 64 shards of each kind, and each history is a legal one of its shard and has calls of caller 0 alone
 pub record IsBench (bench : BenchModel) : Type 0 where
   pub some : 1 ≤ length bench.shards
   pub few : length bench.shards ≤ 64
@@ -24,3 +36,5 @@ pub record IsBench (bench : BenchModel) : Type 0 where
   pub few_users : length bench.users ≤ 64
   pub legal : (k : ℕ) → k < length bench.shards → IsLegalAt (k, length bench.shards) (seen bench k)
   pub legal_users : (k : ℕ) → k < length bench.users → IsUserLegalAt (k, length bench.users) (seen_user bench k)
+  pub alone : (k : ℕ) → AreBy 0 (seen bench k)
+  pub alone_users : (k : ℕ) → AreBy 0 (seen_user bench k)

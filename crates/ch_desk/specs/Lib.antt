@@ -1,5 +1,7 @@
-pub mod Calls
+pub mod Views
+pub mod OwnEntries
 pub mod Alone
-pub mod UserCalls
 pub mod UserAlone
 pub mod Bench
+pub mod AloneCalls
+pub mod Laws

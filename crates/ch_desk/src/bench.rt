@@ -1,5 +1,4 @@
-ghost use Rattle.std.specs.Prelude.{◌≡◌, ◌≢◌, ◌<◌, ◌≤◌, ℕ, [], length, slice_index_or, IfOk};
-ghost use Rattle.ch_base.specs.Growth.{GrowsBy};
+ghost use Rattle.std.specs.Prelude.{◌≡◌, ◌<◌, ◌≤◌, ℕ, [], length, slice_index_or, IfOk};
 
 use crate::desk::Desk;
 use crate::seat::Seat;
@@ -9,7 +8,6 @@ use ch_shard::ChanShard;
 use ch_ushard::UserShard;
 use std::alloc::Global;
 use std::marker::Model;
-use std::sync::Wait;
 
 /// The desk of a caller that is alone, caller 0, with shards of its own. It stores the list of its calls.
 /// Contracts see the history of each channel shard and of each user shard, in which every call is answered
@@ -31,16 +29,17 @@ impl Model for Bench {
 }
 
 impl Bench {
-    ghost use Rattle.ch_history.specs.WellFormed.{IsWellFormed};
-    ghost use Rattle.ch_history.specs.UserLegal.{IsUserWellFormed};
-    ghost use Rattle.ch_history.specs.Placement.{BelongsTo, IsLegalAt, UserBelongsTo, IsUserLegalAt};
+    ghost use Rattle.ch_base.specs.Growth.{GrowsBy};
+    ghost use Rattle.ch_history.specs.AnswerKinds.{IsAnswerTo, IsUserAnswerTo};
+    ghost use Rattle.ch_history.specs.Placement.{IsLegalAt, IsUserLegalAt};
+    ghost use Rattle.ch_protocol.specs.declared.ask.Ask.TheVariants as ask;
     ghost use Rattle.ch_shard.specs.Stands.{Stands};
     ghost use Rattle.ch_ushard.specs.Stands as user_side;
-    ghost use Rattle.ch_desk.specs.Calls.{IsAnswerTo};
-    ghost use Rattle.ch_desk.specs.UserCalls.{IsUserAnswerTo};
     ghost use Rattle.ch_desk.specs.Alone.{IsNext};
     ghost use Rattle.ch_desk.specs.UserAlone.{IsUserNext};
-    ghost use Rattle.ch_desk.specs.Bench.{seen, seen_user};
+    ghost use Rattle.ch_desk.specs.Bench.{seen, seen_user, view_of};
+    ghost use Rattle.ch_desk.specs.AloneCalls.{IsAlone};
+    ghost use Rattle.ch_desk.specs.Views.{MayAsk, StaysButChan, StaysButUser};
 
     /// A bench with so many channel shards and so many user shards, 1 to 64 of each, on which no call was
     /// made.
@@ -60,15 +59,12 @@ impl Bench {
     /// Serves a call on a channel shard, to which it belongs. It doesn't wait: the answer is the definitions'
     /// at once, and the call's entry is the next of the shard.
     pub fn chan(&mut self, shard: u64, call: &ChanCall) -> Result<ChanAnswer, Memory>
-        requires shard { shard < length self.old.shards }
-        requires formed { IsWellFormed call.now }
-        requires belongs { BelongsTo (shard, length self.old.shards) call.now }
+        requires may { MayAsk (view_of self.old) (ask.Chan shard call.now) }
         ensures alone { IsNext (seen self.old shard) (seen self.new shard) call.now result }
         ensures grows { GrowsBy 0 call.now result (seen self.old shard) (seen self.new shard) }
         ensures legal { IsLegalAt (shard, length self.old.shards) (seen self.new shard) }
-        ensures elsewhere { (k : ℕ) → k ≢ shard → seen self.new k ≡ seen self.old k }
         ensures kind { IfOk result (IsAnswerTo call.now) }
-        ensures shards { length self.new.shards ≡ length self.old.shards }
+        ensures elsewhere { StaysButChan shard (view_of self.old) (view_of self.new) }
         ensures users { self.new.users ≡ self.old.users }
     {
         let seat = &mut self.seats[shard as usize];
@@ -78,19 +74,23 @@ impl Bench {
     /// Serves a call on a user shard, to which it belongs. It doesn't wait: the answer is the definitions' at
     /// once, and the call's entry is the next of the shard.
     pub fn user(&mut self, shard: u64, call: &UserCall) -> Result<UserAnswer, Memory>
-        requires shard { shard < length self.old.users }
-        requires formed { IsUserWellFormed call.now }
-        requires belongs { UserBelongsTo (shard, length self.old.users) call.now }
+        requires may { MayAsk (view_of self.old) (ask.User shard call.now) }
         ensures alone { IsUserNext (seen_user self.old shard) (seen_user self.new shard) call.now result }
         ensures grows { GrowsBy 0 call.now result (seen_user self.old shard) (seen_user self.new shard) }
         ensures legal { IsUserLegalAt (shard, length self.old.users) (seen_user self.new shard) }
-        ensures elsewhere { (k : ℕ) → k ≢ shard → seen_user self.new k ≡ seen_user self.old k }
         ensures kind { IfOk result (IsUserAnswerTo call.now) }
-        ensures users { length self.new.users ≡ length self.old.users }
+        ensures elsewhere { StaysButUser shard (view_of self.old) (view_of self.new) }
         ensures shards { self.new.shards ≡ self.old.shards }
     {
         let seat = &mut self.users[shard as usize];
         seat.call(call)
+    }
+
+    /// Nobody but caller 0 calls on these shards.
+    pub fn alone(&self)
+        ensures { IsAlone (view_of self.now) }
+    {
+        let _ = &self.seats;
     }
 
     /// The channel shard with this number, which stands for the history of its calls.
@@ -137,19 +137,10 @@ fn empty_user_seats(alloc: Global, count: u64) -> Result<Vec<UserSeat>, Memory>
     Ok(seats)
 }
 
-impl Desk for Bench {
-    ghost use Rattle.std.specs.Prelude.{length};
-    ghost use Rattle.ch_desk.specs.Bench.{seen, seen_user};
+impl<R> Desk<R> for Bench {
+    ghost use Rattle.ch_desk.specs.Bench.{view_of};
 
-    ghost seen = { seen };
-
-    ghost seen_users = { seen_user };
-
-    ghost me = { λ _. 0 };
-
-    ghost shards = { λ bench. length bench.shards };
-
-    ghost user_count = { λ bench. length bench.users };
+    ghost view = { view_of };
 
     fn caller(&self) -> u64 {
         0
@@ -163,21 +154,11 @@ impl Desk for Bench {
         self.users.len() as u64
     }
 
-    fn chan<R: Wait>(
-        &mut self,
-        _rt: &R,
-        shard: u64,
-        call: &ChanCall,
-    ) -> Result<ChanAnswer, Memory> {
+    fn chan(&mut self, _rt: &R, shard: u64, call: &ChanCall) -> Result<ChanAnswer, Memory> {
         Bench::chan(self, shard, call)
     }
 
-    fn user<R: Wait>(
-        &mut self,
-        _rt: &R,
-        shard: u64,
-        call: &UserCall,
-    ) -> Result<UserAnswer, Memory> {
+    fn user(&mut self, _rt: &R, shard: u64, call: &UserCall) -> Result<UserAnswer, Memory> {
         Bench::user(self, shard, call)
     }
 }

@@ -1,78 +1,52 @@
-ghost use Rattle.std.specs.Prelude.{◌≡◌, ◌≢◌, ◌<◌, ◌≤◌, ℕ, IfOk};
+ghost use Rattle.std.specs.Prelude.{◌≡◌, ◌<◌, ◌≤◌, ℕ, IfOk};
 ghost use Rattle.ch_base.specs.Growth.{GrowsBy};
-ghost use Rattle.ch_history.specs.Entries.{ChanHistory, UserHistory};
-ghost use Rattle.ch_history.specs.WellFormed.{IsWellFormed};
-ghost use Rattle.ch_history.specs.UserLegal.{IsUserWellFormed};
-ghost use Rattle.ch_history.specs.Placement.{BelongsTo, IsLegalAt, UserBelongsTo, IsUserLegalAt};
-ghost use Rattle.ch_desk.specs.Calls.{IsAnswerTo};
-ghost use Rattle.ch_desk.specs.UserCalls.{IsUserAnswerTo};
+ghost use Rattle.ch_history.specs.AnswerKinds.{IsAnswerTo, IsUserAnswerTo};
+ghost use Rattle.ch_history.specs.Placement.{IsLegalAt, IsUserLegalAt};
+ghost use Rattle.ch_protocol.specs.declared.ask.Ask.TheVariants.{Chan, User};
+ghost use Rattle.ch_desk.specs.Views.{DeskView, MayAsk, StaysButChan, StaysButUser};
 
 use ch_base::{ChanAnswer, ChanCall, Memory, UserAnswer, UserCall};
-use std::sync::Wait;
 
-/// Where a caller's calls on shards are served.
-pub trait Desk {
-    /// For each channel shard, the list of its entries as this caller knows it.
-    ghost seen: { Self → ℕ → ChanHistory };
-
-    /// For each user shard, the list of its entries as this caller knows it.
-    ghost seen_users: { Self → ℕ → UserHistory };
-
-    /// The caller's number.
-    ghost me: { Self → ℕ };
-
-    /// How many channel shards there are.
-    ghost shards: { Self → ℕ };
-
-    /// How many user shards there are.
-    ghost user_count: { Self → ℕ };
+/// Where a caller's calls on shards are served. `R` is the runtime with which a call may wait for other
+/// callers; a desk at which no call waits takes any.
+pub trait Desk<R> {
+    /// What contracts see of it: for each shard, the list of its entries as this caller knows it.
+    ghost view: { Self → DeskView };
 
     /// The caller's number, below 64.
     fn caller(&self) -> u64
-        ensures caller { result ≡ me self.now }
+        ensures caller { result ≡ (view self.now).caller }
         ensures small { result < 64 };
 
     /// How many channel shards there are: 1 to 64. What the caller knows of each is a legal history of calls
     /// that belong to it.
     fn chan_shards(&self) -> u64
-        ensures count { result ≡ shards self.now }
+        ensures count { result ≡ (view self.now).chan_shards }
         ensures some { 1 ≤ result }
         ensures few { result ≤ 64 }
-        ensures legal { (k : ℕ) → k < shards self.now → IsLegalAt (k, shards self.now) (seen self.now k) };
+        ensures legal { (k : ℕ) → k < result → IsLegalAt (k, result) ((view self.now).chans k) };
 
     /// How many user shards there are: 1 to 64. What the caller knows of each is a legal history of calls
     /// that belong to it.
     fn user_shards(&self) -> u64
-        ensures count { result ≡ user_count self.now }
+        ensures count { result ≡ (view self.now).user_shards }
         ensures some { 1 ≤ result }
         ensures few { result ≤ 64 }
-        ensures legal { (k : ℕ) → k < user_count self.now → IsUserLegalAt (k, user_count self.now) (seen_users self.now k) };
+        ensures legal { (k : ℕ) → k < result → IsUserLegalAt (k, result) ((view self.now).users k) };
 
-    /// Serves a call on a channel shard, to which it belongs. It may wait.
-    fn chan<R: Wait>(&mut self, rt: &R, shard: u64, call: &ChanCall) -> Result<ChanAnswer, Memory>
-        requires shard { shard < shards self.old }
-        requires formed { IsWellFormed call.now }
-        requires belongs { BelongsTo (shard, shards self.old) call.now }
-        ensures grows { GrowsBy (me self.old) call.now result (seen self.old shard) (seen self.new shard) }
-        ensures legal { IsLegalAt (shard, shards self.old) (seen self.new shard) }
-        ensures elsewhere { (k : ℕ) → k ≢ shard → seen self.new k ≡ seen self.old k }
-        ensures users { (k : ℕ) → seen_users self.new k ≡ seen_users self.old k }
+    /// Serves a call on a channel shard, to which it belongs.
+    fn chan(&mut self, rt: &R, shard: u64, call: &ChanCall) -> Result<ChanAnswer, Memory>
+        requires may { MayAsk (view self.old) (Chan shard call.now) }
+        ensures grows { let old = view self.old in GrowsBy old.caller call.now result (old.chans shard) ((view self.new).chans shard) }
+        ensures legal { IsLegalAt (shard, (view self.old).chan_shards) ((view self.new).chans shard) }
         ensures kind { IfOk result (IsAnswerTo call.now) }
-        ensures caller { me self.new ≡ me self.old }
-        ensures shards { shards self.new ≡ shards self.old }
-        ensures user_shards { user_count self.new ≡ user_count self.old };
+        ensures elsewhere { StaysButChan shard (view self.old) (view self.new) };
 
-    /// Serves a call on a user shard, to which it belongs. It may wait.
-    fn user<R: Wait>(&mut self, rt: &R, shard: u64, call: &UserCall) -> Result<UserAnswer, Memory>
-        requires shard { shard < user_count self.old }
-        requires formed { IsUserWellFormed call.now }
-        requires belongs { UserBelongsTo (shard, user_count self.old) call.now }
-        ensures grows { GrowsBy (me self.old) call.now result (seen_users self.old shard) (seen_users self.new shard) }
-        ensures legal { IsUserLegalAt (shard, user_count self.old) (seen_users self.new shard) }
-        ensures elsewhere { (k : ℕ) → k ≢ shard → seen_users self.new k ≡ seen_users self.old k }
-        ensures channels { (k : ℕ) → seen self.new k ≡ seen self.old k }
+    /// Serves a call on a user shard, to which it belongs.
+    fn user(&mut self, rt: &R, shard: u64, call: &UserCall) -> Result<UserAnswer, Memory>
+        requires may { MayAsk (view self.old) (User shard call.now) }
+        ensures grows { let old = view self.old in GrowsBy old.caller call.now result (old.users shard) ((view self.new).users shard) }
+        ensures legal { IsUserLegalAt (shard, (view self.old).user_shards) ((view self.new).users shard) }
         ensures kind { IfOk result (IsUserAnswerTo call.now) }
-        ensures caller { me self.new ≡ me self.old }
-        ensures shards { shards self.new ≡ shards self.old }
-        ensures user_shards { user_count self.new ≡ user_count self.old };
+        ensures elsewhere { StaysButUser shard (view self.old) (view self.new) };
 }

@@ -2,13 +2,17 @@
 //!
 //! A [`Desk`] is any such place. For each shard of channels and each of users it stands for the list of
 //! entries as its caller knows it: a call lets that list grow by entries of other callers and then by the
-//! call's own, the other lists stay, and every list is a legal history of its shard. A [`Bench`] is the
-//! desk of a caller that is alone.
+//! call's own, the other lists stay, and every list is a legal history of its shard. What a caller did is
+//! said by its own entries among those that each list gained: [`make`] and [`make_all`] make asks at any
+//! desk, and by [`calls_chain`] the calls of one after another are all of them in order. A [`Bench`] is the
+//! desk of a caller that is alone: there nothing lies between.
 #![tactic(auto)]
 
 mod bench;
 mod copies;
 mod desk;
+mod laws;
+mod making;
 mod seat;
 mod user_copies;
 mod user_seat;
@@ -16,8 +20,5 @@ mod user_seat;
 pub use bench::Bench;
 pub use ch_protocol::{AnswerList, Ask, AskList, Made};
 pub use desk::Desk;
-
-#[cfg(test)]
-mod tests;
-#[cfg(test)]
-mod user_tests;
+pub use laws::{calls_alone, calls_chain};
+pub use making::{make, make_all};

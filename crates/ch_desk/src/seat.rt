@@ -30,7 +30,7 @@ impl Model for Seat {
 impl Seat {
     ghost use Rattle.ch_history.specs.WellFormed.{IsWellFormed};
     ghost use Rattle.ch_shard.specs.Stands.{Stands};
-    ghost use Rattle.ch_desk.specs.Calls.{IsAnswerTo};
+    ghost use Rattle.ch_history.specs.AnswerKinds.{IsAnswerTo};
     ghost use Rattle.ch_desk.specs.Alone.{IsNext};
 
     pub fn new(alloc: Global) -> Result<Seat, Memory>

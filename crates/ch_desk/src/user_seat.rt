@@ -30,7 +30,7 @@ impl Model for UserSeat {
 impl UserSeat {
     ghost use Rattle.ch_history.specs.UserLegal.{IsUserWellFormed};
     ghost use Rattle.ch_ushard.specs.Stands.{Stands};
-    ghost use Rattle.ch_desk.specs.UserCalls.{IsUserAnswerTo};
+    ghost use Rattle.ch_history.specs.AnswerKinds.{IsUserAnswerTo};
     ghost use Rattle.ch_desk.specs.UserAlone.{IsUserNext};
 
     pub fn new(alloc: Global) -> Result<UserSeat, Memory>

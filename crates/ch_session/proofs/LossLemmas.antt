@@ -1,10 +1,13 @@
 -- The losses by the least place that is used.
-use Rattle.std.proofs.Common.{◌≡◌, ℕ, zero, suc, ◌+◌, ◌-◌, ◌<◌, ◌≤◌, Bool, true, false, List, [], ◌∷◌, length, refl, sym, ap, ◌∙◌, inl, inr, arith}
-use Rattle.std.specs.Prelude.{Option, Some, None, MatchOption}
-use Rattle.std.proofs.lemmas.Bool.{cond-true, cond-false, cases_eq, cases_lt, false≢true}
+use Rattle.std.proofs.Common.{◌≡◌, ℕ, zero, suc, ◌+◌, ◌-◌, ◌<◌, ◌≤◌, Bool, true, false, List, [], ◌∷◌, length, refl, sym, ap, subst, ◌∙◌, inl, inr, arith}
+use Rattle.std.specs.Prelude.{Option, Some, None, MatchOption, nat_lt}
+use Rattle.std.proofs.lemmas.Bool.{cond-true, cond-false, cases_eq, cases_lt, lt-ltb, le-ltb, false≢true}
+use Rattle.ch_config.specs.declared.config.Config.{Config}
+use Rattle.ch_history.specs.Limits.{IsSocket, IsMoment}
 use Rattle.ch_protocol.specs.declared.ask.Ask.{Ask}
 use Rattle.ch_protocol.specs.Settling.{SettledAsk}
-use Rattle.ch_session.specs.Kept.{Kept, IsSession, losses_left}
+use Rattle.ch_session.specs.Judging.{IsSoundAsk}
+use Rattle.ch_session.specs.Kept.{Kept, IsOver, IsSession, losses_left}
 use Rattle.ch_session.specs.Losses.{IsNextUsed, losses_from, loss_at}
 use Rattle.ch_session.specs.Told.{uses_place}
 
@@ -63,3 +66,13 @@ next_once used from a b x y =
 
 pub next_some : (used : List Bool) (from place : ℕ) → IsNextUsed used from None → IsNextUsed used from (Some place) → ⊥
 next_some used from place none next = false≢true (sym (none place next.0 next.1) ∙ next.2)
+
+-- a loss is well formed, and its shard is there
+pub loss_sound : (s : Kept) (config : Config) (now place : ℕ) → IsSocket s.number → IsMoment now → IsOver s config → place < length s.told.used
+    → IsSoundAsk config (loss_at s.chans s.number now place)
+loss_sound s config now place socket moment over within = elim (cases_lt place s.chans) [
+  | inl low ↦ subst (λ a. IsSoundAsk config a) (sym (cond-true (nat_lt place s.chans) _ _ (lt-ltb place s.chans low)))
+      ((socket, moment), omega (arith, low, over.chans), tt)
+  | inr high ↦ subst (λ a. IsSoundAsk config a) (sym (cond-false (nat_lt place s.chans) _ _ (le-ltb place s.chans high)))
+      ((socket, moment), omega (arith, high, within, over.chans, over.shards), tt)
+]

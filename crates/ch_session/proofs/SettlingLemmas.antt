@@ -24,7 +24,8 @@ use Rattle.ch_protocol.specs.declared.heard.Settled.TheVariants as settled
 use Rattle.ch_session.specs.declared.waiting.Waiting.{Waiting}
 use Rattle.ch_session.specs.declared.waiting.Waiting.TheVariants.{Nothing, Join, Call, SignIn, Watches}
 use Rattle.ch_session.specs.Kept.{Kept, IsSession, IsSettled, IsFit, IsSound, left_after}
-use Rattle.ch_session.specs.MadeAnswers.{ComesOf, IsUserAnswer}
+use Rattle.ch_history.specs.AnswerKinds.{IsUserAnswerTo}
+use Rattle.ch_protocol.specs.Asks.{ComesOf}
 use Rattle.ch_session.specs.Told.{Told, Tells, accepted_with, used_with}
 use Rattle.ch_session.specs.Waits.{IsJoinOn, IsCallOn, IsSignInOn, IsWatchOn, AreWatchesOn, AwaitsNext, Awaits, HoldsData, chan_shard_of, waits_on}
 use Rattle.ch_session.proofs.Telling.{is_at, at_chan, at_user, tells_more, or_none}
@@ -165,7 +166,7 @@ record SignsIn (a : UserAnswer) : Type 0 where
   is_sign_in : is_sign_in_answer (made.User a) ≡ true
   held : holds (made.User a) ≡ true
 
-signs_in : (s : ℕ) (id : List ℕ) (at : ℕ) (a : UserAnswer) → IsUserAnswer (user.SignIn s id at) a → SignsIn a
+signs_in : (s : ℕ) (id : List ℕ) (at : ℕ) (a : UserAnswer) → IsUserAnswerTo (user.SignIn s id at) a → SignsIn a
 signs_in s id at answer.SignedIn is = record { is_sign_in = refl; held = refl }
 signs_in s id at answer.AlreadyIn is = record { is_sign_in = refl; held = refl }
 signs_in s id at _ is = absurd is
@@ -175,7 +176,7 @@ record Watched (a : UserAnswer) : Type 0 where
   no_sign_in : is_sign_in_answer (made.User a) ≡ false
   held : holds (made.User a) ≡ true
 
-watched : (s : ℕ) (id : List ℕ) (at : ℕ) (a : UserAnswer) → IsUserAnswer (user.Watch s id at) a → Watched a
+watched : (s : ℕ) (id : List ℕ) (at : ℕ) (a : UserAnswer) → IsUserAnswerTo (user.Watch s id at) a → Watched a
 watched s id at answer.Watching is = record { no_sign_in = refl; held = refl }
 watched s id at answer.AlreadyWatching is = record { no_sign_in = refl; held = refl }
 watched s id at _ is = absurd is

@@ -12,7 +12,7 @@ use Rattle.ch_protocol.specs.declared.heard.Settled.TheVariants.{Refuse, End}
 use Rattle.ch_session.specs.declared.waiting.Waiting.{Waiting}
 use Rattle.ch_session.specs.declared.waiting.Waiting.TheVariants.{Nothing, Join, Call, SignIn, Watches}
 use Rattle.ch_session.specs.Losses.{losses_from, loss_at}
-use Rattle.ch_session.specs.MadeAnswers.{ComesOf}
+use Rattle.ch_protocol.specs.Asks.{ComesOf}
 use Rattle.ch_session.specs.Told.{Told, Tells, uses_place}
 use Rattle.ch_session.specs.Waits.{Awaits, HoldsData}
 

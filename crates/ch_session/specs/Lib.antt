@@ -1,7 +1,6 @@
 pub mod Judging
 pub mod Kept
 pub mod Losses
-pub mod MadeAnswers
 pub mod ReadTexts
 pub mod Signed
 pub mod StartFaults

@@ -23,8 +23,3 @@ mod waiting;
 
 pub use session::Session;
 pub use start_fault::StartFault;
-
-#[cfg(test)]
-mod sign_in_tests;
-#[cfg(test)]
-mod tests;

@@ -1,11 +1,13 @@
-ghost use Rattle.std.specs.Prelude.{◌≡◌, ◌≤◌, ◌+◌, ◌^◌, ◌⊎◌, ◌∷◌, [], ℕ, List, None, Some, OnOk, IfOk, IfErr, length, drop, slice_get};
+ghost use Rattle.std.specs.Prelude.{◌≡◌, ◌≤◌, ◌+◌, ◌^◌, ◌⊎◌, ◌∷◌, [], ℕ, List, None, Some, OnOk, IfOk, IfErr, IfSome, length, drop, slice_get};
 ghost use Rattle.ch_config.specs.Config.{IsConfig};
+ghost use Rattle.ch_config.specs.declared.config.Config.{Config};
 ghost use Rattle.ch_history.specs.Limits.{IsSocket, IsMoment};
 ghost use Rattle.ch_rate.specs.Quiet.{quiet_from, due_of, quiet_after};
 ghost use Rattle.ch_protocol.specs.Settling.{SettledAsk, settled_with};
 ghost use Rattle.ch_protocol.specs.Sessions.{outcome};
 ghost use Rattle.ch_protocol.specs.Targets.{target_refusal};
 ghost use Rattle.ch_protocol.specs.declared.ask.Ask.{Ask};
+ghost use Rattle.ch_session.specs.Judging.{IsSoundAsk};
 ghost use Rattle.ch_session.specs.Kept.{IsSession, IsOver, MaySettle, left_after, losses_left};
 ghost use Rattle.ch_session.specs.Losses.{IsNextUsed, IsNextLoss, loss_at};
 ghost use Rattle.ch_session.specs.StartFaults.{IsFaultOf};
@@ -86,6 +88,21 @@ impl Session {
         })
     }
 
+    /// The socket's number, 1 to 2^62.
+    pub fn number(&self) -> u64
+        ensures number { result ≡ self.now.number }
+        ensures socket { IsSocket result }
+    {
+        self.number
+    }
+
+    /// The second of the server's start.
+    pub fn start_second(&self) -> u64
+        ensures { result ≡ self.now.start }
+    {
+        self.start
+    }
+
     /// Notes that the connection was heard.
     pub(crate) fn hears(&mut self, now: u64)
         requires { IsMoment now }
@@ -121,6 +138,7 @@ impl Session {
     pub fn next_loss(&self, now: u64) -> Option<Ask>
         ensures next { IsNextLoss self.now.told.used self.now.lost (loss_at self.now.chans self.now.number now) result }
         ensures left { (start number : ℕ) (asks : List SettledAsk) → IsSession self.now start number asks → result ≡ slice_get (losses_left self.now asks now) 0 }
+        ensures sound { (config : Config) → IsOver self.now config → IsMoment now → IfSome result (IsSoundAsk config) }
     {
         match self.told.next_used(self.lost) {
             Some(place) => Some(loss_at(self.chans, self.number, now, place)),

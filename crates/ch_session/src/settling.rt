@@ -6,7 +6,7 @@ ghost use Rattle.ch_protocol.specs.Settling.{count_after};
 ghost use Rattle.ch_protocol.specs.declared.ask.Ask.{Ask};
 ghost use Rattle.ch_protocol.specs.declared.ask.Made.TheVariants.{Chan, User};
 ghost use Rattle.ch_session.specs.Kept.{MaySettle, IsSettled};
-ghost use Rattle.ch_session.specs.MadeAnswers.{ComesOf};
+ghost use Rattle.ch_protocol.specs.Asks.{ComesOf};
 ghost use Rattle.ch_session.specs.Told.{accepted_with, used_with};
 ghost use Rattle.ch_session.specs.Waits.{Awaits, HoldsData, chan_shard_of};
 

@@ -1,8 +1,10 @@
 use Rattle.std.proofs.Common.{ap, sym, ◌∙◌, subst}
 use Rattle.std.specs.Prelude.{slice_get, Some, None}
+use Rattle.ch_history.specs.Limits.{IsSocket}
+use Rattle.ch_session.specs.Judging.{IsSoundAsk}
 use Rattle.ch_session.specs.Kept.{Kept}
 use Rattle.ch_session.specs.Losses.{IsNextUsed, loss_at}
-use Rattle.ch_session.proofs.LossLemmas.{left_none, left_some}
+use Rattle.ch_session.proofs.LossLemmas.{left_none, left_some, loss_sound}
 use Rattle.ch_session.proofs.session.Session.next_loss.Goals as goal
 
 pub returns-in-None-clause-left : goal.returns-in-None-clause-left
@@ -28,3 +30,12 @@ returns-in-Some-clause-next c =
     let P : Kept → Type 0 = λ s. IsNextUsed s.told.used s.lost (Some c.in-Some.place) in
     let same = ap (λ (s : Kept). loss_at s.chans s.number c.args.now c.in-Some.place) c.self.view_is in
     (c.in-Some.place, subst P c.self.view_is c.in-Some.ensures, c.loss_at.ensures ∙ same)
+
+pub returns-in-Some-clause-sound : goal.returns-in-Some-clause-sound
+returns-in-Some-clause-sound c = λ config over moment.
+    let P : Kept → Type 0 = λ s. IsNextUsed s.told.used s.lost (Some c.in-Some.place) in
+    let next = subst P c.self.view_is c.in-Some.ensures in
+    let same = ap (λ (s : Kept). loss_at s.chans s.number c.args.now c.in-Some.place) c.self.view_is in
+    let socket = subst (λ (s : Kept). IsSocket s.number) c.self.view_is c.self.invariant.3 in
+    subst (λ a. IsSoundAsk config a) (sym (c.loss_at.ensures ∙ same))
+    (loss_sound c.args.self.now config c.args.now c.in-Some.place socket moment over next.1)

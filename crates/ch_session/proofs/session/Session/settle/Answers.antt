@@ -1,7 +1,7 @@
 use Rattle.std.proofs.Common.{sym, subst}
 use Rattle.ch_protocol.specs.declared.ask.Made.{Made}
 use Rattle.ch_session.specs.Kept.{IsSettled}
-use Rattle.ch_session.specs.MadeAnswers.{ComesOf}
+use Rattle.ch_protocol.specs.Asks.{ComesOf}
 use Rattle.ch_session.proofs.session.Session.settle.Goals as goal
 
 pub returns-in-Chan-clause-settled : goal.returns-in-Chan-clause-settled
