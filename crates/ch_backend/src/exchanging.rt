@@ -1,42 +1,40 @@
-ghost use Rattle.std.specs.Prelude.{◌≡◌, false, ℕ, List, length, IfOk, OnOk, MatchResult};
+ghost use Rattle.std.specs.Prelude.{◌≡◌, false, ℕ, List, IfOk, OnOk};
 ghost use Rattle.ch_config.specs.Config.{IsConfig};
+ghost use Rattle.ch_desk.specs.AloneCalls.{IsAlone, IsAt};
+ghost use Rattle.ch_desk.specs.Views.{IsDeskOf};
 ghost use Rattle.ch_history.specs.Limits.{IsMoment};
+ghost use Rattle.ch_protocol.specs.Shards.{Shards};
 ghost use Rattle.ch_requests.specs.Verdict.{IsVerdict};
-ghost use Rattle.ch_socket.specs.Sockets.{HasShards, IsAtShards};
-ghost use Rattle.ch_transcript.specs.Transcript.{Shards};
-ghost use Rattle.ch_backend.specs.Exchanges.{IsExchange, Does, IsRefused, Answers};
+ghost use Rattle.ch_backend.specs.Exchanges.{IsExchange, Does, Answers};
 
-use crate::fault::RequestFault;
-use crate::making::answer_planned;
-use crate::replying::{put_need, put_refusal};
-use ch_api::plan;
+use crate::replying::{put_need, put_refusal, put_reply, put_shake};
 use ch_base::Memory;
 use ch_config::Config;
-use ch_desk::Bench;
+use ch_desk::{Desk, calls_alone};
 use ch_http::{Look, Request, RequestReader};
-use ch_socket::START_SECOND;
+use ch_transcript::START_SECOND;
 use std::alloc::Global;
 
 /// Does what the bytes of a request ask for at the moment, in milliseconds, and adds the line of the reply: `http`, its status
-/// and its body, or `http need` where more bytes are wanted.
-pub fn exchange(
+/// and its body, `http 101` for a handshake that is accepted, or `http need` where more bytes are wanted.
+pub fn exchange<R, D: Desk<R>>(
     alloc: Global,
+    rt: &R,
     config: &Config,
-    bench: &mut Bench,
+    desk: &mut D,
     bytes: &[u8],
     at: u64,
     out: &mut Vec<u8>,
-) -> Result<(), RequestFault>
+) -> Result<(), Memory>
     requires config { IsConfig config.now }
-    requires shards { HasShards config.now bench.old }
+    requires desk { IsDeskOf config.now (D.view desk.old) }
     requires moment { IsMoment at }
-    ensures does { (shards : Shards) → IsAtShards bench.old shards → MatchResult result
-        (λ _. Does bench.new out.old.items out.new.items (IsExchange config.now at bytes.now shards))
-        (λ fault. IsRefused fault (IsExchange config.now at bytes.now shards)) }
-    ensures shards { HasShards config.now bench.new }
+    ensures does { (shards : Shards) → IsAt (D.view desk.old) shards → IsAlone (D.view desk.new) →
+        OnOk result (Does (D.view desk.new) out.old.items out.new.items (IsExchange config.now at bytes.now shards)) }
+    ensures desk { IsDeskOf config.now (D.view desk.new) }
 {
     let look = look_at(alloc, config, bytes)?;
-    exchange_by(alloc, config, bench, &look, at, out)
+    exchange_by(alloc, rt, config, desk, &look, at, out)
 }
 
 /// What the bytes are.
@@ -48,55 +46,48 @@ fn look_at(alloc: Global, config: &Config, bytes: &[u8]) -> Result<Look, Memory>
     reader.look(alloc, &config.app_id, 0)
 }
 
-fn exchange_by(
+fn exchange_by<R, D: Desk<R>>(
     alloc: Global,
+    rt: &R,
     config: &Config,
-    bench: &mut Bench,
+    desk: &mut D,
     look: &Look,
     at: u64,
     out: &mut Vec<u8>,
-) -> Result<(), RequestFault>
+) -> Result<(), Memory>
     requires config { IsConfig config.now }
-    requires shards { HasShards config.now bench.old }
+    requires desk { IsDeskOf config.now (D.view desk.old) }
     requires moment { IsMoment at }
-    ensures does { (bytes : List ℕ) (shards : Shards) → IsVerdict config.now.app_id bytes false look.now → IsAtShards bench.old shards → MatchResult result
-        (λ _. Does bench.new out.old.items out.new.items (IsExchange config.now at bytes shards))
-        (λ fault. IsRefused fault (IsExchange config.now at bytes shards)) }
-    ensures shards { HasShards config.now bench.new }
+    ensures does { (bytes : List ℕ) (shards : Shards) → IsVerdict config.now.app_id bytes false look.now → IsAt (D.view desk.old) shards
+        → IsAlone (D.view desk.new) → OnOk result (Does (D.view desk.new) out.old.items out.new.items (IsExchange config.now at bytes shards)) }
+    ensures desk { IsDeskOf config.now (D.view desk.new) }
 {
     match look {
-        Look::Need => {
-            put_need(out)?;
-            Ok(())
-        }
-        Look::Upgrade(_) => Err(RequestFault::Handshake),
-        Look::Ready(request) => {
-            answer(alloc, config, bench, request, at, out)?;
-            Ok(())
-        }
-        Look::Refuse(status) => {
-            put_refusal(alloc, out, *status)?;
-            Ok(())
-        }
+        Look::Need => put_need(out),
+        Look::Upgrade(head) => put_shake(alloc, out, head),
+        Look::Ready(request) => answer(alloc, rt, config, desk, request, at, out),
+        Look::Refuse(status) => put_refusal(alloc, out, *status),
     }
 }
 
 /// Answers a whole request.
-fn answer(
+fn answer<R, D: Desk<R>>(
     alloc: Global,
+    rt: &R,
     config: &Config,
-    bench: &mut Bench,
+    desk: &mut D,
     request: &Request,
     at: u64,
     out: &mut Vec<u8>,
 ) -> Result<(), Memory>
     requires config { IsConfig config.now }
-    requires shards { HasShards config.now bench.old }
+    requires desk { IsDeskOf config.now (D.view desk.old) }
     requires moment { IsMoment at }
-    ensures answers { (shards : Shards) → IsAtShards bench.old shards →
-        OnOk result (Answers config.now at request.now shards bench.new out.old.items out.new.items) }
-    ensures shards { HasShards config.now bench.new }
+    ensures answers { (shards : Shards) → IsAt (D.view desk.old) shards → IsAlone (D.view desk.new) →
+        OnOk result (Answers config.now at request.now shards (D.view desk.new) out.old.items out.new.items) }
+    ensures desk { IsDeskOf config.now (D.view desk.new) }
 {
-    let planned = plan(alloc, config, START_SECOND, request, at)?;
-    answer_planned(alloc, bench, &planned, out)
+    calls_alone();
+    let reply = ch_answer::answer(alloc, rt, desk, config, START_SECOND, request, at)?;
+    put_reply(alloc, out, &reply)
 }

@@ -1,11 +1,13 @@
-ghost use Rattle.std.specs.Prelude.{◌≡◌, ◌++◌, IfOk, OnOk, codes, string_bytes};
+ghost use Rattle.std.specs.Prelude.{◌≡◌, ◌++◌, ℕ, List, Ok, IfOk, OnOk, codes, string_bytes};
 ghost use Rattle.std.specs.Fmt.{decimal};
+ghost use Rattle.ch_requests.specs.Handshakes.{handshake_key};
 ghost use Rattle.ch_requests.specs.Replies.{refusal};
-ghost use Rattle.ch_transcript.specs.Printing.{reply_line, need_line};
+ghost use Rattle.ch_transcript.specs.Printing.{reply_line, shake_line, need_line};
 
 use ch_api::refusal;
 use ch_base::Memory;
-use ch_requests::Reply;
+use ch_requests::{Head, Reply};
+use ch_shake::{HandshakeFault, handshake_key};
 use std::alloc::Global;
 
 /// Adds the line of a reply: `http <status> <body>`.
@@ -33,6 +35,25 @@ pub fn put_refusal(alloc: Global, out: &mut Vec<u8>, status: u16) -> Result<(), 
 {
     let reply = refusal(alloc, status)?;
     put_reply(alloc, out, &reply)
+}
+
+/// Adds the line of a handshake with this head: `http 101` where it is accepted, or the line of its refusal.
+pub fn put_shake(alloc: Global, out: &mut Vec<u8>, head: &Head) -> Result<(), Memory>
+    ensures { OnOk result (out.new.items ≡ out.old.items ++ shake_line (handshake_key head.now)) }
+{
+    match handshake_key(alloc, head) {
+        Ok(_) => put_switching(out),
+        Err(HandshakeFault::Status(status)) => put_refusal(alloc, out, status),
+        Err(HandshakeFault::Memory) => Err(Memory),
+    }
+}
+
+/// Adds the line of a handshake that is accepted.
+fn put_switching(out: &mut Vec<u8>) -> Result<(), Memory>
+    ensures { (key : List ℕ) → OnOk result (out.new.items ≡ out.old.items ++ shake_line (Ok key)) }
+{
+    out.extend_from_slice(b"http 101\n")?;
+    Ok(())
 }
 
 /// Adds the line that tells that more bytes are wanted.

@@ -16,7 +16,7 @@ use Rattle.ch_json.specs.declared.node.Form.{Form}
 use Rattle.ch_json.specs.declared.node.Form.TheVariants as form
 use Rattle.ch_base.specs.JsonText.{max_depth}
 use Rattle.ch_json.proofs.Fronts.{one_tree}
-use Rattle.ch_transcript.specs.Transcript.{IsJudged}
+use Rattle.ch_transcript.specs.Obeying.{IsJudged}
 use Rattle.ch_player.specs.JsonString.{is_whole_string}
 
 many_shorter : (p : ℕ → Bool) (t r : List ℕ) → Many p t r → length r ≤ length t

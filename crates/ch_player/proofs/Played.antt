@@ -14,7 +14,13 @@ use Rattle.ch_requests.specs.declared.request.Look.TheVariants.{Need}
 use Rattle.ch_requests.specs.declared.trigger.Trigger.{Trigger}
 use Rattle.ch_transcript.specs.Joining.{join_text, sign_in_text}
 use Rattle.ch_transcript.specs.Requests.{api_bytes}
-use Rattle.ch_transcript.specs.Transcript.{Progress, Played, Socket, Shards, Turn, Sense, Hears, Means, has_socket, is_live, socket_of, of_socket, takes_turn, quietly, tails, ticks, ends_turn, opens, greeting, most_opened, publishes, obeyed, rounded, rounds, at_moment, Comes, of_exchange}
+use Rattle.ch_protocol.specs.Shards.{Shards}
+use Rattle.ch_transcript.specs.Exchanges.{Comes, of_exchange}
+use Rattle.ch_transcript.specs.Obeying.{Sense, Hears, Means, of_socket, takes_turn, tails, opens, greeting, most_opened, publishes, obeyed}
+use Rattle.ch_transcript.specs.Outcomes.{at_moment}
+use Rattle.ch_transcript.specs.Progress.{Progress, Played, Socket, has_socket, is_live, socket_of, quietly}
+use Rattle.ch_transcript.specs.Rounds.{rounded, rounds}
+use Rattle.ch_transcript.specs.Turns.{Turn, ticks, ends_turn}
 use Rattle.ch_transcript.specs.declared.commands.Command.{Command}
 use Rattle.ch_transcript.specs.declared.commands.Command.TheVariants.{Open, Say, Join, SignIn, Lose, Tick, Publish, Tail, Api, Http}
 use Rattle.ch_transcript.specs.declared.commands.Method.{Method}
@@ -163,13 +169,13 @@ pub obeys_api : (config : Config) (p : Progress) (at : ℕ) (command : Command) 
     → bytes ≡ api_bytes config at method path query body → (x : Option Played) → ExchangesOf config p at bytes x → Obeys config p at command x
 obeys_api config p at command method path query body bytes is same x (e, (look, events, comes, f), h) =
     subst (Of config p at x) (sym is)
-    (looked_as look events, subst (λ z. Comes config at z look events) same comes, h ∙ ap (of_exchange p) f)
+    (looked_as look events, subst (λ z. Comes config at z look events) same comes, h ∙ ap (λ z. Some (of_exchange p z)) f)
 
 pub obeys_http : (config : Config) (p : Progress) (at : ℕ) (command : Command) (bytes slice : List ℕ) → command ≡ Http bytes
     → slice ≡ bytes → (x : Option Played) → ExchangesOf config p at slice x → Obeys config p at command x
 obeys_http config p at command bytes slice is same x (e, (look, events, comes, f), h) =
     subst (Of config p at x) (sym is)
-    (looked_as look events, subst (λ z. Comes config at z look events) same comes, h ∙ ap (of_exchange p) f)
+    (looked_as look events, subst (λ z. Comes config at z look events) same comes, h ∙ ap (λ z. Some (of_exchange p z)) f)
 
 -- ---- lines
 

@@ -13,8 +13,11 @@ use Rattle.ch_base.specs.declared.frame.FrameFor.{FrameFor}
 use Rattle.ch_config.specs.declared.config.Config.{Config}
 use Rattle.ch_desk.specs.Bench.{BenchModel}
 use Rattle.ch_session.specs.Kept.{Kept}
-use Rattle.ch_socket.specs.Sockets.{IsAtShards, IsOpen, IsReady}
-use Rattle.ch_transcript.specs.Transcript.{Socket, no_socket, Shards, Telling, tells_all, all_waiting, taken, has_ended, any_ended, loses, loses_ended, Rounds, after_round, rounds}
+use Rattle.ch_player.specs.Benches.{IsAtShards}
+use Rattle.ch_socket.specs.Sockets.{IsOpen, IsReady}
+use Rattle.ch_protocol.specs.Shards.{Shards, loses}
+use Rattle.ch_transcript.specs.Progress.{Socket, no_socket}
+use Rattle.ch_transcript.specs.Rounds.{Telling, tells_all, all_waiting, taken, has_ended, any_ended, loses_ended, Rounds, after_round, rounds}
 use Rattle.ch_player.specs.Seats.{IsSeatOf, AreSeats, AreReady, session_in, SameSessions, Tells}
 use Rattle.ch_player.specs.Rounding.{open_in, ended_in, one_loss, LosesOne, AllOpen, WereOpen, RunsRound, RunsRounds}
 use Rattle.ch_player.specs.declared.seat.Seat.{Seat}

@@ -2,7 +2,8 @@
 use Rattle.std.proofs.Common.{◌≡◌, ℕ, suc, ◌+◌, ◌<◌, ◌∙◌, ap, sym, refl, subst, List, [], ◌∷◌, ◌++◌, length, take, get_or, append_assoc, append-nil, arith}
 use Rattle.std.proofs.Math.Seq.{take-suc}
 use Rattle.ch_base.specs.declared.frame.FrameFor.{FrameFor}
-use Rattle.ch_transcript.specs.Transcript.{Socket, Telling, tells, tells_all}
+use Rattle.ch_transcript.specs.Progress.{Socket}
+use Rattle.ch_transcript.specs.Rounds.{Telling, tells, tells_all}
 use Rattle.ch_player.specs.Seats.{SameSessions, Tells}
 use Rattle.ch_player.specs.declared.seat.Seat.{Seat}
 use Rattle.std.specs.Prelude.{Option}

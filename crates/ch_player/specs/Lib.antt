@@ -1,3 +1,4 @@
+pub mod Benches
 pub mod JsonString
 pub mod Seats
 pub mod Playing

@@ -1,8 +1,11 @@
 -- What the player of a transcript stands for.
 use Rattle.std.specs.Prelude.{◌≡◌, ℕ, List, ◌++◌, Option, Some, None}
 use Rattle.ch_config.specs.declared.config.Config.{Config}
-use Rattle.ch_socket.specs.Sockets.{IsAtShards}
-use Rattle.ch_transcript.specs.Transcript.{Progress, Played, Rounds, Sense, MeansAs, played_as}
+use Rattle.ch_player.specs.Benches.{IsAtShards}
+use Rattle.ch_transcript.specs.Obeying.{Sense}
+use Rattle.ch_transcript.specs.Outcomes.{MeansAs, played_as}
+use Rattle.ch_transcript.specs.Progress.{Progress, Played}
+use Rattle.ch_transcript.specs.Rounds.{Rounds}
 use Rattle.ch_transcript.specs.declared.commands.Line.{Line}
 use Rattle.ch_player.specs.Seats.{AreSeats, AreReady}
 use Rattle.ch_player.specs.Rounding.{AllOpen}

@@ -9,8 +9,11 @@ use Rattle.ch_desk.specs.Bench.{BenchModel, seen, seen_user}
 use Rattle.ch_history.specs.Frames.{waiting}
 use Rattle.ch_history.specs.UserFrames.{user_waiting}
 use Rattle.ch_session.specs.Kept.{Kept}
-use Rattle.ch_socket.specs.Sockets.{IsAtShards}
-use Rattle.ch_transcript.specs.Transcript.{Socket, no_socket, Shards, tells_all, all_waiting, taken, with_call, with_user_call, has_ended, any_ended, loses, loses_ended, Rounds}
+use Rattle.ch_player.specs.Benches.{IsAtShards}
+use Rattle.ch_history.specs.Alone.{with_call, with_user_call}
+use Rattle.ch_protocol.specs.Shards.{Shards, loses}
+use Rattle.ch_transcript.specs.Progress.{Socket, no_socket}
+use Rattle.ch_transcript.specs.Rounds.{tells_all, all_waiting, taken, has_ended, any_ended, loses_ended, Rounds}
 use Rattle.ch_player.specs.Seats.{AreSeats, Tells}
 use Rattle.ch_player.specs.declared.seat.Seat.{Seat}
 

@@ -3,7 +3,8 @@ use Rattle.std.specs.Prelude.{◌≡◌, ℕ, ◌+◌, ◌<◌, false, List, ◌
 use Rattle.ch_config.specs.declared.config.Config.{Config}
 use Rattle.ch_session.specs.Kept.{Kept, IsSession}
 use Rattle.ch_transcript.specs.Printing.{start_second}
-use Rattle.ch_transcript.specs.Transcript.{Socket, no_socket, Telling}
+use Rattle.ch_transcript.specs.Progress.{Socket, no_socket}
+use Rattle.ch_transcript.specs.Rounds.{Telling}
 use Rattle.ch_socket.specs.Sockets.{IsReady}
 use Rattle.ch_player.specs.declared.seat.Seat.{Seat}
 

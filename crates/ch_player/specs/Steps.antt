@@ -9,8 +9,14 @@ use Rattle.ch_base.specs.declared.channel.ChanAnswer.{ChanAnswer}
 use Rattle.ch_desk.specs.Bench.{BenchModel}
 use Rattle.ch_history.specs.Answers.{answer_of}
 use Rattle.ch_backend.specs.Exchanges.{IsExchange}
-use Rattle.ch_socket.specs.Sockets.{IsSocketOf, IsAtShards}
-use Rattle.ch_transcript.specs.Transcript.{Progress, Played, Socket, Shards, Turn, Sense, Hears, Means, hears, of_socket, obeyed, rounded, greeting, is_accepted, IsJudged, may_except, publishes, calls, Exchange, of_exchange}
+use Rattle.ch_player.specs.Benches.{IsAtShards}
+use Rattle.ch_socket.specs.Sockets.{IsSocketOf}
+use Rattle.ch_protocol.specs.Shards.{Shards, calls}
+use Rattle.ch_transcript.specs.Exchanges.{Exchange, of_exchange}
+use Rattle.ch_transcript.specs.Obeying.{Sense, Hears, Means, of_socket, obeyed, greeting, is_accepted, IsJudged, may_except, publishes}
+use Rattle.ch_transcript.specs.Progress.{Progress, Played, Socket}
+use Rattle.ch_transcript.specs.Rounds.{rounded}
+use Rattle.ch_transcript.specs.Turns.{Turn, hears}
 use Rattle.ch_transcript.specs.declared.commands.Command.{Command}
 
 -- the socket as it is opened, or refused
@@ -45,9 +51,9 @@ Publishes config p at channel event body except x =
     (is_string : Bool) × IsJudged body is_string
     × (x ≡ (if is_string && may_except p except then Some (publishes config p at channel event body except) else None))
 
--- what the bytes of a request write; none where they ask for a WebSocket
+-- what the bytes of a request write
 abbrev pub ExchangesOf : Config → Progress → ℕ → List ℕ → Option Played → Type 0
-ExchangesOf config p at bytes x = (e : Option Exchange) × IsExchange config at bytes p.shards e × (x ≡ of_exchange p e)
+ExchangesOf config p at bytes x = (e : Exchange) × IsExchange config at bytes p.shards e × (x ≡ Some (of_exchange p e))
 
 -- whether a Publish may stand: its body is a JSON string, and the excepted socket is there
 abbrev pub MayPublish : Progress → List ℕ → Option ℕ → Bool → Type 0

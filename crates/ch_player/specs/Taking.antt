@@ -1,7 +1,7 @@
 -- A session that is taken out of its seat for its turn, and put back.
 use Rattle.std.specs.Prelude.{◌≡◌, ◌≢◌, ℕ, ◌+◌, ◌<◌, true, List, length, slice_index_or, Option, Some, None}
 use Rattle.ch_session.specs.Kept.{Kept}
-use Rattle.ch_transcript.specs.Transcript.{Socket, no_socket}
+use Rattle.ch_transcript.specs.Progress.{Socket, no_socket}
 use Rattle.ch_player.specs.Seats.{IsSeatOf}
 use Rattle.ch_player.specs.declared.seat.Seat.{Seat}
 

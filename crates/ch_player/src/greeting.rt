@@ -8,7 +8,8 @@ ghost use Rattle.ch_player.specs.Steps.{Greets};
 use ch_base::{Frame, Memory, Text};
 use ch_config::Config;
 use ch_session::{Session, StartFault};
-use ch_socket::{START_SECOND, put_end, put_frame};
+use ch_socket::{put_end, put_frame};
+use ch_transcript::START_SECOND;
 use std::alloc::Global;
 
 /// Opens the connection with this number, or refuses its target, and tells the socket so.

@@ -2,7 +2,7 @@ ghost use Rattle.std.specs.Prelude.{◌≡◌, ℕ, List, length, IfOk};
 ghost use Rattle.ch_base.specs.JsonTree.{Tree};
 ghost use Rattle.ch_base.specs.JsonText.{Spells};
 ghost use Rattle.ch_json.specs.NodeOf.{HasTree};
-ghost use Rattle.ch_transcript.specs.Transcript.{IsJudged};
+ghost use Rattle.ch_transcript.specs.Obeying.{IsJudged};
 ghost use Rattle.ch_player.specs.JsonString.{is_whole_string};
 
 use ch_base::Memory;

@@ -5,9 +5,13 @@ ghost use Rattle.ch_config.specs.Config.{IsConfig};
 ghost use Rattle.ch_history.specs.ChannelName.{is_good_name};
 ghost use Rattle.ch_history.specs.Limits.{is_event_name};
 ghost use Rattle.ch_protocol.specs.Targets.{target_refusal};
-ghost use Rattle.ch_socket.specs.Sockets.{HasShards};
+ghost use Rattle.ch_player.specs.Benches.{HasShards};
 ghost use Rattle.ch_transcript.specs.Commands.{latest_moment, IsCommand, IsLine};
-ghost use Rattle.ch_transcript.specs.Transcript.{Progress, Played, beginning, Plays, opens, ticks, ends_turn, tails, publishes, may_except, rounds};
+ghost use Rattle.ch_transcript.specs.Obeying.{opens, tails, publishes, may_except};
+ghost use Rattle.ch_transcript.specs.Outcomes.{Plays};
+ghost use Rattle.ch_transcript.specs.Progress.{Progress, Played, beginning};
+ghost use Rattle.ch_transcript.specs.Rounds.{rounds};
+ghost use Rattle.ch_transcript.specs.Turns.{ticks, ends_turn};
 
 use crate::greeting::greet;
 use crate::json_string::is_json_string;
@@ -16,7 +20,7 @@ use crate::publishing::{ask_publish, publish_call};
 use crate::rounds::rounds;
 use crate::seat::Seat;
 use crate::seats::{add_session, has_socket, put_session, take_session};
-use ch_backend::{RequestFault, api_request, exchange};
+use ch_backend::{api_request, exchange};
 use ch_base::{Memory, Text};
 use ch_config::Config;
 use ch_desk::Bench;
@@ -245,6 +249,7 @@ impl Player {
         };
         let left = hear(
             self.alloc,
+            &(),
             &self.config,
             &mut self.bench,
             session,
@@ -253,6 +258,7 @@ impl Player {
             at,
             out,
         )?;
+        self.bench.alone();
         put_session(&mut self.seats, number, left);
         Ok(())
     }
@@ -272,7 +278,17 @@ impl Player {
         let Some(session) = take_session(&mut self.seats, number) else {
             return Ok(());
         };
-        let left = tick(self.alloc, &mut self.bench, session, number, at, out)?;
+        let left = tick(
+            self.alloc,
+            &(),
+            &self.config,
+            &mut self.bench,
+            session,
+            number,
+            at,
+            out,
+        )?;
+        self.bench.alone();
         put_session(&mut self.seats, number, left);
         Ok(())
     }
@@ -292,7 +308,8 @@ impl Player {
         let Some(session) = take_session(&mut self.seats, number) else {
             return Ok(());
         };
-        lose(&mut self.bench, session, number, at)?;
+        lose(&(), &mut self.bench, session, number, at)?;
+        self.bench.alone();
         put_session(&mut self.seats, number, None);
         Ok(())
     }
@@ -376,10 +393,19 @@ impl Player {
         ensures sound { OnOk result (IsSound self.new) }
         ensures over { config_of self.new ≡ config_of self.old }
     {
-        match exchange(self.alloc, &self.config, &mut self.bench, bytes, at, out) {
+        let done = exchange(
+            self.alloc,
+            &(),
+            &self.config,
+            &mut self.bench,
+            bytes,
+            at,
+            out,
+        );
+        self.bench.alone();
+        match done {
             Ok(()) => Ok(()),
-            Err(RequestFault::Handshake) => Err(LineFault::NotALine),
-            Err(RequestFault::Memory) => Err(LineFault::Memory),
+            Err(Memory) => Err(LineFault::Memory),
         }
     }
 

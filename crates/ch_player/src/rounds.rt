@@ -6,8 +6,12 @@ ghost use Rattle.ch_desk.specs.Bench.{seen, seen_user};
 ghost use Rattle.ch_history.specs.Frames.{waiting};
 ghost use Rattle.ch_history.specs.UserFrames.{user_waiting};
 ghost use Rattle.ch_history.specs.Limits.{IsMoment};
-ghost use Rattle.ch_socket.specs.Sockets.{IsReady, IsAtShards, HasShards};
-ghost use Rattle.ch_transcript.specs.Transcript.{Socket, Shards, tells_all, all_waiting, taken, with_call, with_user_call, any_ended, loses_ended, rounds};
+ghost use Rattle.ch_player.specs.Benches.{IsAtShards, HasShards};
+ghost use Rattle.ch_socket.specs.Sockets.{IsReady};
+ghost use Rattle.ch_history.specs.Alone.{with_call, with_user_call};
+ghost use Rattle.ch_protocol.specs.Shards.{Shards};
+ghost use Rattle.ch_transcript.specs.Progress.{Socket};
+ghost use Rattle.ch_transcript.specs.Rounds.{tells_all, all_waiting, taken, any_ended, loses_ended, rounds};
 ghost use Rattle.ch_player.specs.Seats.{IsSeatOf, AreSeats, AreReady, SameSessions, Tells};
 ghost use Rattle.ch_player.specs.Rounding.{ChanTakes, UserTakes, TellsChans, TellsUsers, TellsRound, RunsRounds, AllOpen, WereOpen, ended_in, open_in, LosesOne, LosesEnded, RunsRound};
 
@@ -154,7 +158,8 @@ fn lose_one(
 {
     match take_ended(seats, i) {
         Some(session) => {
-            lose(bench, session, i as u64 + 1, at)?;
+            lose(&(), bench, session, i as u64 + 1, at)?;
+            bench.alone();
             Ok(true)
         }
         None => Ok(false),

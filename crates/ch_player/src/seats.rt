@@ -2,7 +2,7 @@ ghost use Rattle.std.specs.Prelude.{◌≡◌, ◌≤◌, ◌+◌, true, false, 
 ghost use Rattle.ch_config.specs.declared.config.Config.{Config};
 ghost use Rattle.ch_socket.specs.Sockets.{IsReady, IsOpen, IsSocketOf};
 ghost use Rattle.ch_socket.specs.Turns.{StaysReady};
-ghost use Rattle.ch_transcript.specs.Transcript.{Socket, has_socket, is_live, socket_of, with_socket};
+ghost use Rattle.ch_transcript.specs.Progress.{Socket, has_socket, is_live, socket_of, with_socket};
 ghost use Rattle.ch_player.specs.Seats.{AreSeats, AreReady};
 ghost use Rattle.ch_player.specs.Rounding.{AllOpen};
 ghost use Rattle.ch_player.specs.Taking.{AreSeatsBut, seat_of};

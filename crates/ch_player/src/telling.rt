@@ -1,5 +1,6 @@
 ghost use Rattle.std.specs.Prelude.{◌≡◌, ◌≤◌, true, List, length, OnOk};
-ghost use Rattle.ch_transcript.specs.Transcript.{Socket, is_live, tells, tells_all, with_socket, closed, socket_of};
+ghost use Rattle.ch_transcript.specs.Progress.{Socket, is_live, with_socket, closed, socket_of};
+ghost use Rattle.ch_transcript.specs.Rounds.{tells, tells_all};
 ghost use Rattle.ch_player.specs.Seats.{AreSeats, SameSessions, Tells};
 
 use crate::seat::Seat;

@@ -10,6 +10,3 @@ mod parts;
 mod requests;
 
 pub use lines::read_line;
-
-#[cfg(test)]
-mod tests;

@@ -1,4 +1,3 @@
-pub mod AskSteps
+pub mod AskTurns
 pub mod HearSteps
 pub mod LossSteps
-pub mod TurnSteps

@@ -1,4 +1,3 @@
-pub mod Asks
-pub mod Following
 pub mod Sockets
 pub mod Turns
+pub mod Responses

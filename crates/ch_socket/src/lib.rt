@@ -1,19 +1,17 @@
-//! One socket of a transcript: what its commands write, over its session and a bench of shards.
+//! One socket of a transcript: what its commands write, over its session and any desk.
+//!
+//! What a text, a silence or a loss does at the shards is said by `ch_session` and `ch_dispatch` for any desk;
+//! where the caller is alone there, the turn is exactly the transcript's.
 #![tactic(auto)]
 
-mod asking;
-mod following;
 mod hearing;
 mod losing;
 mod printing;
+mod responding;
 mod ticking;
 mod turns;
 
-pub use asking::make;
 pub use hearing::hear;
 pub use losing::lose;
-pub use printing::{START_SECOND, put, put_end, put_error, put_frame};
+pub use printing::{put, put_end, put_error, put_frame};
 pub use ticking::tick;
-
-#[cfg(test)]
-mod tests;

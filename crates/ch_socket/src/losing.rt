@@ -1,40 +1,33 @@
-ghost use Rattle.std.specs.Prelude.{◌≡◌, length, OnOk};
+ghost use Rattle.std.specs.Prelude.{◌≡◌, List, OnOk};
+ghost use Rattle.ch_desk.specs.AloneCalls.{IsAlone, IsAt};
+ghost use Rattle.ch_desk.specs.OwnEntries.{Makes};
 ghost use Rattle.ch_history.specs.Limits.{IsMoment};
-ghost use Rattle.ch_socket.specs.Asks.{MayAsk};
-ghost use Rattle.ch_socket.specs.Sockets.{IsAtShards, IsOpen};
+ghost use Rattle.ch_protocol.specs.Asks.{Asked};
+ghost use Rattle.ch_protocol.specs.Shards.{Shards, loses};
+ghost use Rattle.ch_socket.specs.Sockets.{IsOpen};
 ghost use Rattle.ch_socket.specs.Turns.{MayTurn};
-ghost use Rattle.ch_transcript.specs.Transcript.{Socket, Shards, loses, after_ask};
+ghost use Rattle.ch_transcript.specs.Progress.{Socket};
 
-use crate::asking::make;
 use ch_base::Memory;
-use ch_desk::Bench;
-use ch_protocol::Ask;
+use ch_desk::{Desk, calls_alone};
 use ch_session::Session;
 
 /// Makes the losses of the socket with this number, whose connection ends at the moment `at`: one on each
 /// shard that its session uses.
-pub fn lose(bench: &mut Bench, session: Session, number: u64, at: u64) -> Result<(), Memory>
+pub fn lose<R, D: Desk<R>>(
+    rt: &R,
+    desk: &mut D,
+    session: Session,
+    number: u64,
+    at: u64,
+) -> Result<(), Memory>
     requires at { IsMoment at }
-    requires ready { MayTurn number session bench.old }
-    ensures lost { (s : Socket) (shards : Shards) → IsOpen number session s → IsAtShards bench.old shards → OnOk result (IsAtShards bench.new (loses number at s.asks shards)) }
-    ensures chans { length bench.new.shards ≡ length bench.old.shards }
-    ensures users { length bench.new.users ≡ length bench.old.users }
+    requires ready { MayTurn number session (D.view desk.old) }
+    ensures lost { (s : Socket) (shards : Shards) → IsOpen number session s → IsAt (D.view desk.old) shards → IsAlone (D.view desk.new)
+        → OnOk result (IsAt (D.view desk.new) (loses number at s.asks shards)) }
+    ensures calls { (asked : List Asked) × Makes asked (D.view desk.old) (D.view desk.new) }
 {
+    calls_alone();
     let mut session = session;
-    while let Some(ask) = session.next_loss(at) {
-        make_loss(bench, ask)?;
-        session.loss_made();
-    }
-    Ok(())
-}
-
-/// Makes the call of a loss, whose answer tells nothing more.
-fn make_loss(bench: &mut Bench, ask: Ask) -> Result<(), Memory>
-    requires { MayAsk bench.old ask }
-    ensures made { (shards : Shards) → IsAtShards bench.old shards → OnOk result (IsAtShards bench.new (after_ask shards ask)) }
-    ensures chans { length bench.new.shards ≡ length bench.old.shards }
-    ensures users { length bench.new.users ≡ length bench.old.users }
-{
-    let _made = make(bench, &ask)?;
-    Ok(())
+    ch_dispatch::lose(rt, desk, &mut session, at)
 }

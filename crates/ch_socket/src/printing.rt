@@ -5,10 +5,8 @@ ghost use Rattle.ch_transcript.specs.Printing.{socket_line, frame_line, close_li
 
 use ch_base::{ChanAnswer, Frame, Memory, Text};
 use ch_frames::print;
+use ch_transcript::START_SECOND;
 use std::alloc::Global;
-
-/// The second at which the server of a transcript starts.
-pub const START_SECOND: u64 = 1;
 
 /// Adds a text to the output.
 pub fn put(out: &mut Vec<u8>, text: &str) -> Result<(), Memory>

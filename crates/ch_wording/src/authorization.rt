@@ -7,10 +7,8 @@ ghost use Rattle.ch_transcript.specs.Printing.{start_second};
 use ch_base::Memory;
 use ch_config::Config;
 use ch_sig::{socket_sig, user_sig};
+use ch_transcript::START_SECOND;
 use std::alloc::Global;
-
-/// The second of the server's start, as a player has it.
-const START_SECOND: u64 = 1;
 
 /// What authorizes the socket with this number to subscribe (Pusher Channels, "Auth signatures").
 pub fn channel_auth(

@@ -16,6 +16,3 @@ pub use joining::join_text;
 pub use sent_line::put_sent;
 pub use signing_in::sign_in_text;
 pub use tail_line::put_tail;
-
-#[cfg(test)]
-mod tests;

@@ -1,5 +1,5 @@
 use Rattle.std.proofs.Common.{sym, subst, ap}
-use Rattle.ch_transcript.specs.Transcript.{IsJudged}
+use Rattle.ch_transcript.specs.Obeying.{IsJudged}
 use Rattle.ch_player.proofs.JsonStrings.{judged, no_string, is_memory}
 use Rattle.ch_player.proofs.json_string.is_json_string.Goals as goal
 

@@ -1,7 +1,8 @@
 use Rattle.std.proofs.Common.{◌≡◌, ◌+◌, ◌<◌, ◌∙◌, ◌||◌, ap, ap₂, sym, subst, arith, None, length, take, is_some, slice_index_or}
 use Rattle.std.proofs.lemmas.List.{length-set, take_all}
-use Rattle.ch_socket.specs.Sockets.{IsAtShards}
-use Rattle.ch_transcript.specs.Transcript.{no_socket, any_ended, loses_ended}
+use Rattle.ch_player.specs.Benches.{IsAtShards}
+use Rattle.ch_transcript.specs.Progress.{no_socket}
+use Rattle.ch_transcript.specs.Rounds.{any_ended, loses_ended}
 use Rattle.ch_player.specs.Seats.{IsSeatOf}
 use Rattle.ch_player.specs.Rounding.{open_in}
 use Rattle.ch_player.proofs.Roundings.{Losing, Losing-next, Emptied-all, AreSeats-emptied, done-next, left-next, seat-elsewhere, seat-here}

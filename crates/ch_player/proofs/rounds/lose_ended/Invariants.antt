@@ -1,6 +1,7 @@
 use Rattle.std.proofs.Common.{◌≡◌, ℕ, ◌<◌, ◌≤◌, List, None, length, slice_index_or}
-use Rattle.ch_socket.specs.Sockets.{HasShards, IsAtShards}
-use Rattle.ch_transcript.specs.Transcript.{Socket, Shards}
+use Rattle.ch_player.specs.Benches.{HasShards, IsAtShards}
+use Rattle.ch_protocol.specs.Shards.{Shards}
+use Rattle.ch_transcript.specs.Progress.{Socket}
 use Rattle.ch_player.specs.Seats.{AreSeats}
 use Rattle.ch_player.specs.Rounding.{WereOpen, open_in}
 use Rattle.ch_player.proofs.Roundings.{Losing}

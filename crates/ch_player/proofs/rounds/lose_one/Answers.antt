@@ -8,5 +8,5 @@ returns-in_ok-lose-in-Some-clause-loses c = λ before after shards were is at.
     let seat = slice_index_or c.args.seats.now.items c.args.i None in
     let session = c.in-Some.session in
     let taken = c.in-Some.ensures.taken in
-    LosesOne-taken number c.args.at c.lose.new.bench seat session before after shards taken were is
-    (c.in_ok-lose-in-Some.ensures.lost (opened after) shards (IsOpen-taken number seat session after taken is) at)
+    LosesOne-taken number c.args.at c.lose.new.desk seat session before after shards taken were is
+    (c.in_ok-lose-in-Some.ensures.lost (opened after) shards (IsOpen-taken number seat session after taken is) at c.alone.ensures)

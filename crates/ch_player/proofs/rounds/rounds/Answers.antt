@@ -1,5 +1,5 @@
 use Rattle.std.proofs.Common.{◌≡◌, ◌+◌, ◌-◌, ◌∙◌, suc, true, false, refl, subst, arith, length}
-use Rattle.ch_transcript.specs.Transcript.{rounds}
+use Rattle.ch_transcript.specs.Rounds.{rounds}
 use Rattle.ch_player.specs.Rounding.{RunsRound}
 use Rattle.ch_player.proofs.Roundings.{Running, Running-first, Running-next, RunsRounds-last}
 use Rattle.ch_player.proofs.rounds.rounds.Goals as goal

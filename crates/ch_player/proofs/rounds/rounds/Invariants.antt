@@ -1,6 +1,8 @@
 use Rattle.std.proofs.Common.{◌≡◌, ◌+◌, ◌-◌, List, length}
-use Rattle.ch_socket.specs.Sockets.{HasShards, IsAtShards}
-use Rattle.ch_transcript.specs.Transcript.{Socket, Shards, rounds}
+use Rattle.ch_player.specs.Benches.{HasShards, IsAtShards}
+use Rattle.ch_protocol.specs.Shards.{Shards}
+use Rattle.ch_transcript.specs.Progress.{Socket}
+use Rattle.ch_transcript.specs.Rounds.{rounds}
 use Rattle.ch_player.specs.Seats.{AreSeats, AreReady}
 use Rattle.ch_player.specs.Rounding.{AllOpen}
 use Rattle.ch_player.proofs.Roundings.{Running}

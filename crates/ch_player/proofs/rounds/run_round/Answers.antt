@@ -1,5 +1,5 @@
 use Rattle.std.proofs.lemmas.Result.{IfOk-weaker}
-use Rattle.ch_transcript.specs.Transcript.{tells_all, all_waiting, taken}
+use Rattle.ch_transcript.specs.Rounds.{tells_all, all_waiting, taken}
 use Rattle.ch_player.specs.Rounding.{LosesEnded, RunsRound}
 use Rattle.ch_player.proofs.Roundings.{WereOpen-told}
 use Rattle.ch_player.proofs.rounds.run_round.Goals as goal

@@ -1,5 +1,5 @@
 use Rattle.std.proofs.lemmas.Result.{on_ok_weaker}
-use Rattle.ch_transcript.specs.Transcript.{tells_all}
+use Rattle.ch_transcript.specs.Rounds.{tells_all}
 use Rattle.ch_player.specs.Rounding.{chans_waiting, users_waiting, taken_chans}
 use Rattle.ch_player.proofs.Roundings.{Tells-both}
 use Rattle.ch_player.proofs.rounds.take_round.Goals as goal

@@ -2,7 +2,7 @@ use Rattle.std.proofs.Common.{◌<◌, length, ◌∙◌, ap, arith}
 use Rattle.ch_base.specs.declared.channel.ChanCall.TheVariants.{Take}
 use Rattle.ch_desk.specs.Bench.{seen}
 use Rattle.ch_history.specs.Frames.{waiting}
-use Rattle.ch_transcript.specs.Transcript.{with_call}
+use Rattle.ch_history.specs.Alone.{with_call}
 use Rattle.ch_player.proofs.Tellings.{SameSessions-then}
 use Rattle.ch_player.proofs.Roundings.{Tells-shard, done-next, left-next}
 use Rattle.ch_player.proofs.rounds.tell_chans.Goals as goal

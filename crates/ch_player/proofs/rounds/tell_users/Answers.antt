@@ -2,7 +2,7 @@ use Rattle.std.proofs.Common.{◌<◌, length, ◌∙◌, ap, arith}
 use Rattle.ch_base.specs.declared.user.UserCall.TheVariants.{Take}
 use Rattle.ch_desk.specs.Bench.{seen_user}
 use Rattle.ch_history.specs.UserFrames.{user_waiting}
-use Rattle.ch_transcript.specs.Transcript.{with_user_call}
+use Rattle.ch_history.specs.Alone.{with_user_call}
 use Rattle.ch_player.proofs.Tellings.{SameSessions-then}
 use Rattle.ch_player.proofs.Roundings.{Tells-shard, done-next, left-next}
 use Rattle.ch_player.proofs.rounds.tell_users.Goals as goal

@@ -1,8 +1,11 @@
 use Rattle.std.proofs.Common.{◌≡◌, ℕ, ◌<◌, ◌≤◌, List, length}
 use Rattle.ch_base.specs.declared.user.UserCall.TheVariants.{Take}
 use Rattle.ch_desk.specs.Bench.{seen_user}
-use Rattle.ch_socket.specs.Sockets.{IsAtShards}
-use Rattle.ch_transcript.specs.Transcript.{Socket, Shards, tells_all, with_user_call}
+use Rattle.ch_player.specs.Benches.{IsAtShards}
+use Rattle.ch_history.specs.Alone.{with_user_call}
+use Rattle.ch_protocol.specs.Shards.{Shards}
+use Rattle.ch_transcript.specs.Progress.{Socket}
+use Rattle.ch_transcript.specs.Rounds.{tells_all}
 use Rattle.ch_player.specs.Seats.{AreSeats, SameSessions, Tells}
 use Rattle.ch_player.specs.Rounding.{users_waiting}
 use Rattle.ch_player.proofs.rounds.tell_users.Given as goal

@@ -1,5 +1,5 @@
 use Rattle.std.proofs.Common.{take}
-use Rattle.ch_transcript.specs.Transcript.{tells_all}
+use Rattle.ch_transcript.specs.Rounds.{tells_all}
 use Rattle.ch_player.proofs.Tellings.{Tells-next, SameSessions-then}
 use Rattle.ch_player.proofs.telling.tell_all.Goals as goal
 

@@ -1,5 +1,6 @@
 use Rattle.std.proofs.Common.{List, take}
-use Rattle.ch_transcript.specs.Transcript.{Socket, tells_all}
+use Rattle.ch_transcript.specs.Progress.{Socket}
+use Rattle.ch_transcript.specs.Rounds.{tells_all}
 use Rattle.ch_player.specs.Seats.{AreSeats, SameSessions, Tells}
 use Rattle.ch_player.proofs.telling.tell_all.Given as goal
 

@@ -3,6 +3,6 @@ use Rattle.ch_socket.proofs.HearSteps.{ready_quiet}
 use Rattle.ch_socket.proofs.ticking.tick.Goals as goal
 
 pub returns-clause-ready : goal.returns-clause-ready
-returns-clause-ready c = λ config ready.
-    c.finish.ensures.ready config
-    (ready_quiet config c.args.number c.args.session c.tick-due.new.self (quiet_after c.args.session.quiet c.args.at) c.tick-due.ensures.same ready)
+returns-clause-ready g c =
+    c.finish.ensures.ready c.args.config.now
+    (ready_quiet c.args.config.now c.args.number c.args.session c.tick-due.new.self (quiet_after c.args.session.quiet c.args.at) c.tick-due.ensures.same c.requires.ready)

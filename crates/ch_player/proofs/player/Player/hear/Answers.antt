@@ -1,5 +1,7 @@
 use Rattle.std.proofs.Common.{◌∙◌, sym, append-nil}
-use Rattle.ch_transcript.specs.Transcript.{hears, socket_of, takes_turn, quietly}
+use Rattle.ch_transcript.specs.Obeying.{takes_turn}
+use Rattle.ch_transcript.specs.Progress.{socket_of, quietly}
+use Rattle.ch_transcript.specs.Turns.{hears}
 use Rattle.ch_player.proofs.Played.{no_reading, found, not_live, turn_none, turn_quiet, turn_taken, hears_nothing, hears_text}
 use Rattle.ch_player.proofs.player.Player.hear.Goals as goal
 
@@ -27,7 +29,7 @@ returns-clause-hears c = λ p is.
     let there = has ∙ c.if-not-has_socket.false in
     let taken = c.in-Some.ensures.taken p.sockets is.seats in
     let s = socket_of p.sockets c.args.number in
-    let h = c.in_ok-left.ensures.hears s p.shards taken.1 is.shards in
+    let h = c.in_ok-left.ensures.hears s p.shards taken.1 is.shards c.alone.ensures in
     let turn = hears c.args.self.now.config c.args.number c.args.at h.0 in
     record {
       played = takes_turn p c.args.number (turn s p.shards);

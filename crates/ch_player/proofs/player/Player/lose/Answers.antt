@@ -1,6 +1,8 @@
 use Rattle.std.proofs.Common.{◌∙◌, sym, refl, append-nil}
 use Rattle.std.specs.Prelude.{[]}
-use Rattle.ch_transcript.specs.Transcript.{ends_turn, socket_of, takes_turn, quietly}
+use Rattle.ch_transcript.specs.Obeying.{takes_turn}
+use Rattle.ch_transcript.specs.Progress.{socket_of, quietly}
+use Rattle.ch_transcript.specs.Turns.{ends_turn}
 use Rattle.ch_player.proofs.Played.{found, turn_none, turn_quiet, turn_taken}
 use Rattle.ch_player.proofs.player.Player.lose.Goals as goal
 
@@ -32,5 +34,5 @@ returns-clause-loses c = λ p wrote is.
       played = takes_turn p c.args.number (turn s p.shards);
       is = turn_taken p c.args.number turn there taken.0;
       text = sym (append-nil wrote);
-      next = record { at = is.at; seats = c.put_session.ensures.put p.sockets (turn s p.shards).socket taken.2 refl; shards = c.in_ok-lose.ensures.lost s p.shards taken.1 is.shards };
+      next = record { at = is.at; seats = c.put_session.ensures.put p.sockets (turn s p.shards).socket taken.2 refl; shards = c.in_ok-lose.ensures.lost s p.shards taken.1 is.shards c.alone.ensures };
     }

@@ -2,7 +2,7 @@ use Rattle.std.proofs.Common.{◌++◌, ◌∙◌, ap, subst, refl}
 use Rattle.ch_base.specs.declared.channel.ChanCall.{ChanCall}
 use Rattle.ch_history.specs.Placement.{shard_of}
 use Rattle.ch_transcript.specs.Printing.{sent_line}
-use Rattle.ch_transcript.specs.Transcript.{publishes}
+use Rattle.ch_transcript.specs.Obeying.{publishes}
 use Rattle.ch_player.specs.Steps.{Asked}
 use Rattle.ch_player.proofs.Played.{on_ok}
 use Rattle.ch_player.proofs.player.Player.make_publish.Goals as goal

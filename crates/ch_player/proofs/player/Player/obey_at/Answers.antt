@@ -1,5 +1,5 @@
 use Rattle.std.proofs.Common.{refl, arith}
-use Rattle.ch_transcript.specs.Transcript.{at_moment}
+use Rattle.ch_transcript.specs.Outcomes.{at_moment}
 use Rattle.ch_transcript.specs.declared.commands.Line.TheVariants.{Timed}
 use Rattle.ch_player.specs.Playing.{PlaysLine}
 use Rattle.ch_player.proofs.Played.{answer_map, timed_none, timed_is}

@@ -1,6 +1,6 @@
 use Rattle.std.proofs.Common.{◌+◌, subst, length}
 use Rattle.ch_config.specs.declared.config.Config.{Config}
-use Rattle.ch_transcript.specs.Transcript.{rounds}
+use Rattle.ch_transcript.specs.Rounds.{rounds}
 use Rattle.ch_player.specs.Playing.{RunsOn}
 use Rattle.ch_player.proofs.Played.{refused_whole, obeys_whole}
 use Rattle.ch_player.proofs.player.Player.obey_whole.Goals as goal

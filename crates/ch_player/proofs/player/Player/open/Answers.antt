@@ -1,7 +1,7 @@
 use Rattle.std.proofs.Common.{◌≡◌, ◌<◌, ◌+◌, ◌++◌, ◌∙◌, ap, subst, length, arith}
 use Rattle.ch_protocol.specs.Targets.{target_refusal}
 use Rattle.ch_socket.specs.Sockets.{IsSocketOf}
-use Rattle.ch_transcript.specs.Transcript.{most_opened, greeting}
+use Rattle.ch_transcript.specs.Obeying.{most_opened, greeting}
 use Rattle.ch_player.specs.Steps.{new_socket}
 use Rattle.ch_player.proofs.Played.{opened, opens_is}
 use Rattle.ch_player.proofs.player.Player.open.Goals as goal

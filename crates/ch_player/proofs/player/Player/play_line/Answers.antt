@@ -1,6 +1,6 @@
 use Rattle.std.proofs.Common.{sym, append-nil}
 use Rattle.std.specs.Prelude.{Some, None}
-use Rattle.ch_transcript.specs.Transcript.{quietly}
+use Rattle.ch_transcript.specs.Progress.{quietly}
 use Rattle.ch_transcript.specs.declared.commands.Line.TheVariants.{Skipped, Timed, Bad}
 use Rattle.ch_player.specs.Playing.{PlaysLine}
 use Rattle.ch_player.proofs.Played.{answer_map, line_is, skipped_is, bad_is}

@@ -1,5 +1,7 @@
 use Rattle.std.proofs.Common.{◌∙◌, sym, append-nil}
-use Rattle.ch_transcript.specs.Transcript.{ticks, socket_of, takes_turn, quietly}
+use Rattle.ch_transcript.specs.Obeying.{takes_turn}
+use Rattle.ch_transcript.specs.Progress.{socket_of, quietly}
+use Rattle.ch_transcript.specs.Turns.{ticks}
 use Rattle.ch_player.proofs.Played.{found, turn_none, turn_quiet, turn_taken}
 use Rattle.ch_player.proofs.player.Player.tick.Goals as goal
 
@@ -27,7 +29,7 @@ returns-clause-ticks c = λ p is.
     let taken = c.in-Some.ensures.taken p.sockets is.seats in
     let s = socket_of p.sockets c.args.number in
     let turn = ticks c.args.number c.args.at in
-    let h = c.in_ok-left.ensures.ticks s p.shards taken.1 is.shards in
+    let h = c.in_ok-left.ensures.ticks s p.shards taken.1 is.shards c.alone.ensures in
     record {
       played = takes_turn p c.args.number (turn s p.shards);
       is = turn_taken p c.args.number turn there taken.0;
@@ -40,6 +42,6 @@ returns-clause-sound c =
     let config = c.args.self.now.config in
     record {
       ready = c.put_session.ensures.ready config (c.in-Some.ensures.others config c.requires.sound.ready)
-          (c.in_ok-left.ensures.ready config (c.in-Some.ensures.ready config c.requires.sound.ready));
+          c.in_ok-left.ensures.ready;
       all_open = c.put_session.ensures.open;
     }
