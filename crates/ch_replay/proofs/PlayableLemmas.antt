@@ -5,14 +5,14 @@ use Rattle.std.specs.Io.KnownBytes.{Consumes, IsAtEnd}
 use Rattle.ch_config.specs.declared.config.Config.{Config}
 use Rattle.ch_transcript.specs.Printing.{error_line, long_line}
 use Rattle.ch_transcript.specs.Replayed.{Ran, Refuses, status_of}
-use Rattle.ch_transcript.specs.Transcript.{Outcome, HasOutcome, ends}
+use Rattle.ch_transcript.specs.Outcomes.{Outcome, HasOutcome, ends}
 use Rattle.ch_transcript.specs.declared.ending.Ending.{Ending}
 use Rattle.ch_transcript.specs.declared.ending.Ending.TheVariants as ending
 use Rattle.ch_transcript.proofs.Carrying.{moved}
 use Rattle.ch_replay.specs.Playable.{IsPlayable}
 
 -- an outcome that what was read has, at the end or however it goes on, is one of all that the source told
-outcome_of_all : (config : Config) (bytes read : List ℕ) (left : Option (List ℕ)) (o : Outcome) → Consumes (Some bytes) left read → HasOutcome config read o
+pub outcome_of_all : (config : Config) (bytes read : List ℕ) (left : Option (List ℕ)) (o : Outcome) → Consumes (Some bytes) left read → HasOutcome config read o
     → (IsAtEnd left ⊎ ((rest : List ℕ) → HasOutcome config (read ++ rest) o)) → HasOutcome config bytes o
 outcome_of_all config bytes read None o consumed judged settled = absurd consumed
 outcome_of_all config bytes read (Some rest) o consumed judged (inl at_end) =

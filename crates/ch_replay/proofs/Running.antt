@@ -9,10 +9,13 @@ use Rattle.ch_transcript.specs.Lines.{longest_line, has_line_end}
 use Rattle.ch_transcript.specs.Printing.{error_line, long_line}
 use Rattle.ch_transcript.specs.Replayed.{Ran, IsPart, IsPrefix, Refuses, WritesLast}
 use Rattle.ch_config.specs.declared.config.Config.{Config}
-use Rattle.ch_transcript.specs.Transcript.{Progress, beginning, Played, Plays, HasOutcome, ends}
+use Rattle.ch_transcript.specs.Outcomes.{Plays, HasOutcome, ends}
+use Rattle.ch_transcript.specs.Progress.{Progress, beginning, Played}
 use Rattle.ch_transcript.specs.declared.ending.Ending.{Ending}
 use Rattle.ch_transcript.specs.declared.ending.Ending.TheVariants as ending
 use Rattle.ch_transcript.proofs.Carrying.{Carries, Carries-begin, Carries-line, Carries-ended, Carries-failed, Carries-last, Carries-refused, Carries-last_refused, Carries-long, moved, on_nothing, done_whole}
+use Rattle.ch_outcomes.specs.Answered.{line_ends}
+use Rattle.ch_replay.proofs.LineEnds.{line_ends_more}
 use Rattle.ch_replay.specs.Reading.{ReadsLine}
 use Rattle.ch_player.specs.Playing.{IsAt}
 use Rattle.ch_replay.specs.Serving.{Serves, Stops, EndsAt}
@@ -36,6 +39,7 @@ pub record Runs (config : Config) (left_old left_now told_old told_now : Option 
   pub carries : Carries config done wrote number p
   pub is : IsAt player p
   pub counted : number + limit + length pending ≤ 2 ^ 62 + 1
+  pub numbered : number ≡ line_ends done + 1
 
 pub Runs-begin : (config : Config) (left told : Option (List ℕ)) (limit : ℕ) (player : Player) → IsAt player beginning → limit ≤ 2 ^ 62 → Runs config left left told told limit 1 player []
 Runs-begin config left told limit player is small = record {
@@ -47,15 +51,16 @@ Runs-begin config left told limit player is small = record {
   carries = Carries-begin config;
   is = is;
   counted = omega arith;
+  numbered = refl;
 }
 
 -- after a call of the reader
-further : (lo ln lk : Option (List ℕ)) (done pending bytes seen : List ℕ) → Consumes lo ln (done ++ pending) → Consumes ln lk bytes → pending ++ bytes ≡ seen → Consumes lo lk (done ++ seen)
+pub further : (lo ln lk : Option (List ℕ)) (done pending bytes seen : List ℕ) → Consumes lo ln (done ++ pending) → Consumes ln lk bytes → pending ++ bytes ≡ seen → Consumes lo lk (done ++ seen)
 further lo ln lk done pending bytes seen c d e =
     let P : List ℕ → Type 0 = λ z. Consumes lo lk z in
     subst P (append_assoc done pending bytes ∙ ap (λ z. done ++ z) e) (Consumes-then lo ln lk (done ++ pending) bytes c d)
 
-nothing_more : (a b c : Option (List ℕ)) (x : List ℕ) → Appends a b x → Appends b c [] → Appends a c x
+pub nothing_more : (a b c : Option (List ℕ)) (x : List ℕ) → Appends a b x → Appends b c [] → Appends a c x
 nothing_more a b c x p q = let P : List ℕ → Type 0 = λ z. Appends a c z in subst P (append-nil x) (Appends-then a b c x [] p q)
 
 pub Runs-line : {config : Config} {lo ln lk to tn tk : Option (List ℕ)} {m mk n : ℕ} {player player' : Player} {pending line new : List ℕ} (r : Runs config lo ln to tn m n player pending)
@@ -73,6 +78,7 @@ Runs-line {config} {lo} {ln} {lk} {to} {tn} {tk} {m} {mk} {n} {pending} {line} {
       carries = Carries-line line s.played r.carries reads.gives.1 reads.gives.2 s.is;
       is = s.next;
       counted = omega (arith, r.counted, reads.limit, ap length reads.gives.0, length-append pending reads.bytes, length-append line (10 ∷ new));
+      numbered = omega (arith, r.numbered, line_ends_more r.done line [] reads.gives.1);
     }
 
 pub Runs-ended : {config : Config} {lo ln lk to tn : Option (List ℕ)} {m mk n : ℕ} {player : Player} {pending line new : List ℕ} {failed : Type 0} (r : Runs config lo ln to tn m n player pending)

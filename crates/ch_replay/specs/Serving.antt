@@ -1,9 +1,11 @@
 -- What the service of one line gives, and what is written at the end.
 use Rattle.std.specs.Prelude.{◌≡◌, ℕ, List, [], take, Option, Some, None, ◌⊎◌}
 use Rattle.std.specs.Io.KnownBytes.{Appends}
+use Rattle.ch_config.specs.declared.config.Config.{Config}
+use Rattle.ch_outcomes.specs.Answered.{Refusal, IsReadTo}
 use Rattle.ch_transcript.specs.Printing.{error_line, long_line}
 use Rattle.ch_transcript.specs.Replayed.{WritesLast}
-use Rattle.ch_transcript.specs.Transcript.{Played}
+use Rattle.ch_transcript.specs.Progress.{Played}
 use Rattle.ch_transcript.specs.declared.ending.Ending.{Ending}
 use Rattle.ch_transcript.specs.declared.ending.Ending.TheVariants.{NotALine, LongLine, WriteFailed, Memory}
 use Rattle.ch_player.specs.declared.player.Player.{Player}
@@ -40,3 +42,10 @@ abbrev pub EndsAt : Ending → ℕ → Ending → Option (List ℕ) → Option (
 EndsAt NotALine number result told_old told_new write_failed = NamesBy (error_line number) NotALine result told_old told_new write_failed
 EndsAt LongLine number result told_old told_new write_failed = NamesBy (long_line number) LongLine result told_old told_new write_failed
 EndsAt ending number result told_old told_new write_failed = (result ≡ ending) × Appends told_old told_new []
+
+-- what a line that is named at the end was, where one is
+abbrev pub Names : Config → Option (List ℕ) → Option (List ℕ) → (Sink : Type 0) → (Sink → Option (List ℕ)) → (Sink → ℕ) → Sink → Sink → Ending → Type 0
+Names config left_old left_new Sink told faults old new NotALine =
+    (r : Refusal config 4 error_line left_old left_new Sink told faults old new) × IsReadTo r.number r.read left_new
+Names config left_old left_new Sink told faults old new LongLine = Refusal config 8 long_line left_old left_new Sink told faults old new
+Names config left_old left_new Sink told faults old new _ = Unit {0}

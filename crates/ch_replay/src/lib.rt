@@ -10,12 +10,3 @@ mod printing;
 mod replaying;
 
 pub use replaying::replay;
-
-#[cfg(test)]
-mod config_tests;
-#[cfg(test)]
-mod request_tests;
-#[cfg(test)]
-mod tests;
-#[cfg(test)]
-mod transcript_tests;

@@ -1,13 +1,16 @@
 ghost use Rattle.std.specs.Prelude.{◌≡◌, ◌≤◌, ◌^◌, ◌↔◌, true, false, MatchResult, IfOk, IfErr, IsErr, IfSome, OnOk, ◌⊎◌};
 ghost use Rattle.std.specs.Option.{option_copied};
 ghost use Rattle.ch_io.specs.Counts.{Rose};
+ghost use Rattle.ch_outcomes.specs.Answered.{AnswersOutcome, Refusal, IsReadTo};
+ghost use Rattle.ch_transcript.specs.Printing.{error_line, long_line};
 ghost use Rattle.ch_transcript.specs.Replayed.{Ran, WritesLast, status_of};
-ghost use Rattle.ch_transcript.specs.Transcript.{Progress, beginning, Plays};
+ghost use Rattle.ch_transcript.specs.Outcomes.{Plays, Outcome, HasOutcome};
+ghost use Rattle.ch_transcript.specs.Progress.{Progress, beginning};
 ghost use Rattle.ch_config.specs.Config.{IsConfig};
 ghost use Rattle.ch_player.specs.Playing.{IsAt, IsSound, config_of};
 ghost use Rattle.ch_replay.specs.ConfigLines.{config_or_line, fault_line, Declines};
 ghost use Rattle.ch_replay.specs.Playable.{IsPlayable};
-ghost use Rattle.ch_replay.specs.Serving.{Serves, Stops, EndsAt};
+ghost use Rattle.ch_replay.specs.Serving.{Serves, Stops, EndsAt, Names};
 ghost use Rattle.ch_replay.specs.Words.{is_replay, usage_line};
 
 use crate::line_reader::{LineReader, Next};
@@ -21,14 +24,15 @@ use ch_transcript::Ending;
 use std::alloc::Global;
 
 /// Replays the transcript of a source into a sink, with the configuration of these bytes, and answers the
-/// status of the program. No bytes are given where they can't be read.
+/// status of the program. No bytes are given where they can't be read. A transcript has one outcome, whose
+/// status is answered unless a read or a write failed or memory ran out.
 ///
 /// | Status | Comes |
 /// |---|---|
 /// | 0 | the transcript was read to its end |
 /// | 2 | the words aren't `replay` with at most one more; the usage line is written |
 /// | 3 | there is no configuration; a line says why |
-/// | 4 | a line isn't a transcript line; it is named last |
+/// | 4 | a line isn't a transcript line; it was read to its line end, or the source to its end, and is named last |
 /// | 5 | a read of the source failed |
 /// | 6 | a write to the sink failed |
 /// | 7 | want of memory |
@@ -51,6 +55,12 @@ pub fn replay<S: Source, K: Sink>(
     ensures complete { is_replay words.now ≡ true → IfOk (config_or_line (option_copied config.entry)) (λ c. IfSome (S.left source.old) (λ bytes.
         IsPlayable c bytes → ¬ Rose (S.faults source.old) (S.faults source.new) → ¬ Rose (K.faults sink.old) (K.faults sink.new)
         → (result ≡ 0) ⊎ (result ≡ 7))) }
+    ensures exact { is_replay words.now ≡ true → IfOk (config_or_line (option_copied config.entry)) (λ c. IfSome (S.left source.old) (λ bytes.
+        (o : Outcome) → HasOutcome c bytes o → AnswersOutcome o result (K.told sink.old) (K.told sink.new) (Rose (K.faults sink.old) (K.faults sink.new)))) }
+    ensures not_a_line { result ≡ 4 → IfOk (config_or_line (option_copied config.entry)) (λ c.
+        (r : Refusal c 4 error_line (S.left source.old) (S.left source.new) K K.told K.faults sink.old sink.new) × IsReadTo r.number r.read (S.left source.new)) }
+    ensures long_line { result ≡ 8 → IfOk (config_or_line (option_copied config.entry)) (λ c.
+        Refusal c 8 long_line (S.left source.old) (S.left source.new) K K.told K.faults sink.old sink.new) }
     ensures read_fault { result ≡ 5 → Rose (S.faults source.old) (S.faults source.new) }
     ensures write_fault { result ≡ 6 → Rose (K.faults sink.old) (K.faults sink.new) }
 {
@@ -115,6 +125,7 @@ fn replay_lines<S: Source, K: Sink>(
     ensures ran { Ran config (S.left source.old) (S.left source.new) (K.told sink.old) (K.told sink.new) (Rose (K.faults sink.old) (K.faults sink.new)) result }
     ensures read_fault { result ≡ Ending.ReadFailed → Rose (S.faults source.old) (S.faults source.new) }
     ensures write_fault { result ≡ Ending.WriteFailed → Rose (K.faults sink.old) (K.faults sink.new) }
+    ensures named { Names config (S.left source.old) (S.left source.new) K K.told K.faults sink.old sink.new result }
 {
     let Ok(mut player) = Player::new(alloc, config) else {
         return Ending::Memory;

@@ -1,9 +1,10 @@
 use Rattle.std.proofs.Common.{◌≡◌, ◌≤◌, ◌∙◌, ℕ, List, subst, arith}
 use Rattle.ch_config.specs.declared.config.Config.{Config}
 use Rattle.ch_io.specs.Counts.{Rose}
-use Rattle.ch_transcript.specs.Transcript.{Plays}
+use Rattle.ch_transcript.specs.Outcomes.{Plays}
 use Rattle.ch_player.specs.Playing.{config_of}
 use Rattle.ch_replay.specs.Serving.{Serves, Stops}
+use Rattle.ch_replay.proofs.Naming.{Runs-names, Runs-names_last, Runs-names_long}
 use Rattle.ch_replay.proofs.Running.{Runs-line, Runs-ended, Runs-failed, Runs-memory, Runs-last, Runs-stop, Runs-stop_last, Runs-long, Runs-smaller, no_read_failed, nothing_ran}
 use Rattle.ch_replay.proofs.replaying.replay_lines.Goals as goal
 
@@ -77,3 +78,21 @@ pub returns-in-Err-serve-clause-read_fault : goal.returns-in-Err-serve-clause-re
 returns-in-Err-serve-clause-read_fault g c =
     let r = c.lines.invariant.runs in
     λ is. absurd (no_read_failed _ _ (Plays (config_of c.lines.player) r.p c.as_slice-in-Last.result.now) c.in-Err-serve.ending c.end_at-in-Err-serve.result c.end_at-in-Err-serve.ensures.only (c.in-Err-serve.ensures.serves r.p r.is) is)
+
+pub returns-in-Err-clause-named : goal.returns-in-Err-clause-named
+returns-in-Err-clause-named g c =
+    let r = c.lines.invariant.runs in
+    let P : Config → List ℕ → Type 0 = λ k z. Stops c.in-Err.ending (g.K.Sink.told c.lines.sink) (g.K.Sink.told c.serve.new.sink) (Plays k r.p z) in
+    Runs-names g.K.Sink.told g.K.Sink.faults _ c.lines.sink c.serve.new.sink _ (omega (arith, c.lines.invariant.wrote, c.in-Err.ensures.later)) r c.in-Whole.ensures.gives c.in-Err.ending c.end_at.result
+    (by_both P c.lines.invariant.over c.as_slice.ensures.value (c.in-Err.ensures.serves r.p r.is)) c.end_at.ensures.ends
+
+pub returns-in-Long-clause-named : goal.returns-in-Long-clause-named
+returns-in-Long-clause-named g c =
+    Runs-names_long g.K.Sink.told g.K.Sink.faults _ c.lines.sink _ c.lines.invariant.wrote c.lines.invariant.runs c.in-Long.ensures.gives c.end_at-in-Long.result c.end_at-in-Long.ensures.ends
+
+pub returns-in-Err-serve-clause-named : goal.returns-in-Err-serve-clause-named
+returns-in-Err-serve-clause-named g c =
+    let r = c.lines.invariant.runs in
+    let P : Config → List ℕ → Type 0 = λ k z. Stops c.in-Err-serve.ending (g.K.Sink.told c.lines.sink) (g.K.Sink.told c.serve-in-Last.new.sink) (Plays k r.p z) in
+    Runs-names_last g.K.Sink.told g.K.Sink.faults _ c.lines.sink c.serve-in-Last.new.sink _ (omega (arith, c.lines.invariant.wrote, c.in-Err-serve.ensures.later)) r c.in-Last.ensures.gives c.in-Err-serve.ending c.end_at-in-Err-serve.result
+    (by_both P c.lines.invariant.over c.as_slice-in-Last.ensures.value (c.in-Err-serve.ensures.serves r.p r.is)) c.end_at-in-Err-serve.ensures.ends
