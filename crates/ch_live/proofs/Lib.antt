@@ -1,0 +1,7 @@
+pub mod Wires
+pub mod Delivering
+pub mod Sendings
+pub mod Listenings
+pub mod Turning
+pub mod Losable
+pub mod TurnLaws

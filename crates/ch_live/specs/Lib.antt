@@ -1,0 +1,10 @@
+pub mod Backlogs
+pub mod Connections
+pub mod Peers
+pub mod Answers
+pub mod Courses
+pub mod Turns
+pub mod Sent
+pub mod Listening
+pub mod Losses
+pub mod Laws
