@@ -1,0 +1,11 @@
+pub mod Places
+pub mod Calling
+pub mod Columns
+pub mod Pairing
+pub mod Legality
+pub mod NewSeats
+pub mod NewHouses
+pub mod Counted
+pub mod ClosedHouses
+pub mod OwnCounts
+pub mod Crossing
