@@ -1,0 +1,208 @@
+//! The calls of a channel shard, each by the letter that the shard's tail has for it.
+ghost use Rattle.std.specs.Prelude.{◌<◌, length, IfOk, IsTrue, None};
+ghost use Rattle.ch_history.specs.ChannelName.{is_good_name, is_presence, kind_of, may_say};
+ghost use Rattle.ch_history.specs.Limits.{IsSocket, is_user_id};
+ghost use Rattle.ch_history.specs.WellFormed.{IsMember, IsMemberOf, IsWellFormed};
+
+use ch_base::{ChanAnswer, ChanCall, Frame, Hook, Member, Memory, Text};
+use ch_shard::ChanShard;
+use std::alloc::Global;
+use std::test::Fail;
+
+fn join(
+    alloc: Global,
+    socket: u64,
+    channel: &str,
+    member: Option<Member>,
+) -> Result<ChanCall, Memory>
+    requires socket { IsSocket socket }
+    requires name { IsTrue (is_good_name channel.now) }
+    requires member { IsMemberOf (is_presence channel.now) member }
+    ensures { IfOk result IsWellFormed }
+{
+    Ok(ChanCall::Join {
+        socket,
+        channel: Text::of(alloc, channel)?,
+        member,
+        at: 0,
+    })
+}
+
+/// A member with the info `null`.
+fn member(alloc: Global, user_id: &str) -> Result<Member, Memory>
+    requires { IsTrue (is_user_id user_id.now) }
+    ensures { IfOk result IsMember }
+{
+    Ok(Member {
+        user_id: Text::of(alloc, user_id)?,
+        info: Text::of(alloc, "null")?,
+    })
+}
+
+fn leave(alloc: Global, socket: u64, channel: &str) -> Result<ChanCall, Memory>
+    requires socket { IsSocket socket }
+    requires name { IsTrue (is_good_name channel.now) }
+    ensures { IfOk result IsWellFormed }
+{
+    Ok(ChanCall::Leave {
+        socket,
+        channel: Text::of(alloc, channel)?,
+        at: 0,
+    })
+}
+
+fn publish(alloc: Global, channel: &str) -> Result<ChanCall, Memory>
+    requires { IsTrue (is_good_name channel.now) }
+    ensures { IfOk result IsWellFormed }
+{
+    Ok(ChanCall::Publish {
+        channel: Text::of(alloc, channel)?,
+        event: Text::of(alloc, "e")?,
+        body: Text::of(alloc, "\"x\"")?,
+        except: None,
+        at: 0,
+    })
+}
+
+fn say(alloc: Global, socket: u64, channel: &str) -> Result<ChanCall, Memory>
+    requires socket { IsSocket socket }
+    requires name { IsTrue (is_good_name channel.now) }
+    requires kind { IsTrue (may_say (kind_of channel.now)) }
+    ensures { IfOk result IsWellFormed }
+{
+    Ok(ChanCall::Say {
+        socket,
+        channel: Text::of(alloc, channel)?,
+        event: Text::of(alloc, "client-m")?,
+        body: Text::of(alloc, "null")?,
+        at: 0,
+    })
+}
+
+fn look(alloc: Global) -> Result<ChanCall, Memory>
+    ensures { IfOk result IsWellFormed }
+{
+    Ok(ChanCall::Look {
+        channel: Text::of(alloc, "a")?,
+        at: 0,
+    })
+}
+
+fn list_users(alloc: Global) -> Result<ChanCall, Memory>
+    ensures { IfOk result IsWellFormed }
+{
+    Ok(ChanCall::Users {
+        channel: Text::of(alloc, "presence-r")?,
+    })
+}
+
+/// The call of a letter: socket 1 is on `a` (`J`, `X`), and socket 2 on `presence-r` (`M`, `S`, `L`).
+fn call(alloc: Global, letter: u8) -> Result<ChanCall, Memory>
+    ensures { IfOk result IsWellFormed }
+{
+    match letter {
+        b'J' => join(alloc, 1, "a", None),
+        b'M' => join(alloc, 2, "presence-r", Some(member(alloc, "u")?)),
+        b'L' => leave(alloc, 2, "presence-r"),
+        b'X' => Ok(ChanCall::Lost { socket: 1, at: 0 }),
+        b'P' => publish(alloc, "a"),
+        b'S' => say(alloc, 2, "presence-r"),
+        b'H' => Ok(ChanCall::TakeHooks { at: 0 }),
+        b'N' => Ok(ChanCall::Names {
+            prefix: Text::new(alloc),
+        }),
+        b'K' => look(alloc),
+        b'U' => list_users(alloc),
+        _ => Ok(ChanCall::Take),
+    }
+}
+
+fn hook_word(hook: &Hook) -> &'static str {
+    match hook {
+        Hook::Occupied { .. } => "occupied ",
+        Hook::Vacated { .. } => "vacated ",
+        Hook::Added { .. } => "added ",
+        Hook::Removed { .. } => "removed ",
+        Hook::Client { .. } => "client ",
+        Hook::Miss { .. } => "miss ",
+    }
+}
+
+fn frame_word(frame: &Frame) -> &'static str {
+    match frame {
+        Frame::Succeeded { .. } => "succeeded ",
+        Frame::Present { .. } => "present ",
+        Frame::Event { .. } => "event ",
+        _ => "another ",
+    }
+}
+
+/// Adds an answer, in words.
+fn push_answer(alloc: Global, words: &mut String, answer: &ChanAnswer) -> Result<(), Fail> {
+    match answer {
+        ChanAnswer::Frames(frames) => {
+            for item in frames.as_slice() {
+                words.push_str(frame_word(&item.frame))?;
+            }
+        }
+        ChanAnswer::Hooks(hooks) => {
+            for hook in hooks.as_slice() {
+                words.push_str(hook_word(hook))?;
+            }
+        }
+        ChanAnswer::Rows(rows) => {
+            for row in rows.as_slice() {
+                let (channel, subs, users) = (row.channel.as_str(), row.subs, row.users);
+                let text = format!(in alloc; "{channel}={subs},{users} ")?;
+                words.push_str(text.as_str())?;
+            }
+        }
+        ChanAnswer::Ids(ids) => {
+            for id in ids.as_slice() {
+                words.push_str(id.as_str())?;
+            }
+        }
+        plain => {
+            let text = format!(in alloc; "{plain:?}")?;
+            words.push_str(text.as_str())?;
+        }
+    }
+    words.push_str("; ")?;
+    Ok(())
+}
+
+/// What caller 3 of a new shard is answered, the letters of the shard's tail and its open subscriptions.
+fn told(alloc: Global, letters: &[u8]) -> Result<String, Fail> {
+    let mut shard = ChanShard::new(alloc)?;
+    let mut words = String::new(alloc);
+    for letter in letters {
+        let answer = shard.apply(3, &call(alloc, *letter)?)?;
+        push_answer(alloc, &mut words, &answer)?;
+    }
+    for i in 0..shard.tail_len() {
+        words.push(char::from(shard.tail_at(i).letter))?;
+    }
+    let open = format!(in alloc; " {}", shard.open_subs())?;
+    words.push_str(open.as_str())?;
+    Ok(words)
+}
+
+#[test]
+fn calls_are_answered(rt: HostRuntime) -> Result<(), Fail> {
+    let alloc: Global = rt.alloc();
+    let table: [(&[u8], &str); 2] = [
+        (
+            b"JXJJH",
+            "Joined; Gone { count: 1 }; Joined; Already; occupied vacated occupied ; JXJJH 1",
+        ),
+        (
+            b"JMPSKNULXTH",
+            "Joined; Joined; Sent { subs: 1, users: 0 }; Said; Looked { subs: 1, users: 0 }; a=1,0 presence-r=1,1 ; u; Left; Gone { count: 1 }; succeeded present event ; occupied occupied added client removed vacated vacated ; JJPSKNULXTH 0",
+        ),
+    ];
+    for (letters, want) in table {
+        let got = told(alloc, letters)?;
+        assert_eq!(rt; got.as_str(), want);
+    }
+    Ok(())
+}
