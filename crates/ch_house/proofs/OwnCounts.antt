@@ -6,7 +6,8 @@ use Rattle.std.proofs.lemmas.List.Elements.{filter-append, All-head, All-tail}
 use Rattle.ch_base.specs.declared.entry.Entry.{Entry}
 use Rattle.ch_base.specs.Growth.{own, NotBy, GrowsBy}
 use Rattle.ch_turn.specs.Callers.{CallersBelow, GrowsByOthers}
-use Rattle.ch_house.specs.OwnEntries.{entries_by, total_below}
+use Rattle.ch_desk.specs.OwnEntries.{entries_by}
+use Rattle.ch_house.specs.OwnEntries.{total_below}
 
 eq_other : (a b : ℕ) → a ≢ b → (a == b) ≡ false
 eq_other a b ne = ⊎_elim (λ (h : ((a == b) ≡ true) × (a ≡ b)). absurd (ne h.1)) (λ (h : ((a == b) ≡ false) × (a ≢ b)). h.0) (eqb_tells a b)

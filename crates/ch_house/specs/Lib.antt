@@ -5,3 +5,4 @@ pub mod Houses
 pub mod Pairs
 pub mod Closes
 pub mod OwnEntries
+pub mod DeskViews

@@ -11,6 +11,7 @@ ghost use Rattle.ch_turn.specs.Callers.{CallersBelow};
 use crate::house::House;
 use crate::passes::Passes;
 use ch_base::{ChanAnswer, ChanCall, Memory, UserAnswer, UserCall};
+use ch_desk::Desk;
 use std::marker::Model;
 use std::sync::Wait;
 
@@ -95,5 +96,31 @@ impl<'a> HouseDesk<'a> {
         ensures take { call.now ≡ user_call.Take → IsOk result }
     {
         self.house.user(rt, &mut self.passes, shard, call)
+    }
+}
+
+impl<R: Wait> Desk<R> for HouseDesk<'_> {
+    ghost use Rattle.ch_house.specs.DeskViews.{view_of};
+
+    ghost view = { view_of };
+
+    fn caller(&self) -> u64 {
+        self.passes.caller()
+    }
+
+    fn chan_shards(&self) -> u64 {
+        self.passes.chan_shards()
+    }
+
+    fn user_shards(&self) -> u64 {
+        self.passes.user_shards()
+    }
+
+    fn chan(&mut self, rt: &R, shard: u64, call: &ChanCall) -> Result<ChanAnswer, Memory> {
+        HouseDesk::chan(self, rt, shard, call)
+    }
+
+    fn user(&mut self, rt: &R, shard: u64, call: &UserCall) -> Result<UserAnswer, Memory> {
+        HouseDesk::user(self, rt, shard, call)
     }
 }

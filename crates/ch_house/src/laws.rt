@@ -4,7 +4,8 @@ ghost use Rattle.ch_base.specs.declared.entry.Entry.{Entry};
 ghost use Rattle.ch_base.specs.declared.memory.Memory.{Memory};
 ghost use Rattle.ch_base.specs.Growth.{own, GrowsBy};
 ghost use Rattle.ch_turn.specs.Callers.{CallersBelow, GrowsByOthers};
-ghost use Rattle.ch_house.specs.OwnEntries.{entries_by, total_below};
+ghost use Rattle.ch_desk.specs.OwnEntries.{entries_by};
+ghost use Rattle.ch_house.specs.OwnEntries.{total_below};
 
 /// What each caller did on a shard is in its history once, in that caller's order, and nothing else is.
 ///

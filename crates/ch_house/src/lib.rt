@@ -2,8 +2,8 @@
 //!
 //! [`Locks`] is a row of locks, each round a value of its own; a caller's [`RowPasses`] keep what it has seen of each.
 //! A [`House`] keeps a row of channel shards and a row of user shards. With its [`Passes`] a caller sits down at a
-//! [`HouseDesk`]: each of its calls lets the list of one shard grow by entries of other callers and then by its own,
-//! and every list is a legal history of its shard.
+//! [`HouseDesk`], which is a `ch_desk::Desk`: each of its calls lets the list of one shard grow by entries of other
+//! callers and then by its own, and every list is a legal history of its shard.
 //!
 //! At the end [`House::close`] counts each shard's one history. It begins with the list of each caller, has just that
 //! caller's calls of it, in that caller's order, and none of anyone else: `HasClosed` in `specs/Closes.antt` says so,
