@@ -42,7 +42,7 @@ IsBench-with bench k h is legal alone =
 
 stays_but_chan : (bench : BenchModel) (k : ℕ) (h : ChanHistory) → StaysButChan k (view_of bench) (view_of (with_history bench k h))
 stays_but_chan bench k h = record {
-  same = record { caller = refl; chan_shards = length-set bench.shards k h; user_shards = refl };
+  same = record { house = refl; caller = refl; chan_shards = length-set bench.shards k h; user_shards = refl };
   chans = λ j other. get_or-set_other bench.shards k j h [] other;
   users = λ j. refl;
 }
@@ -88,7 +88,7 @@ IsBench-with_user bench k h is legal alone =
 
 stays_but_user : (bench : BenchModel) (k : ℕ) (h : UserHistory) → StaysButUser k (view_of bench) (view_of (with_user_history bench k h))
 stays_but_user bench k h = record {
-  same = record { caller = refl; chan_shards = refl; user_shards = length-set bench.users k h };
+  same = record { house = refl; caller = refl; chan_shards = refl; user_shards = length-set bench.users k h };
   chans = λ j. refl;
   users = λ j other. get_or-set_other bench.users k j h [] other;
 }

@@ -96,10 +96,11 @@ module _ {C A : Type 0} where
 -- ---- all lists
 
 IsSame-refl : (desk : DeskView) → IsSameDesk desk desk
-IsSame-refl desk = record { caller = refl; chan_shards = refl; user_shards = refl }
+IsSame-refl desk = record { house = refl; caller = refl; chan_shards = refl; user_shards = refl }
 
 IsSame-then : (a b c : DeskView) → IsSameDesk a b → IsSameDesk b c → IsSameDesk a c
 IsSame-then a b c p q = record {
+  house = q.house ∙ p.house;
   caller = q.caller ∙ p.caller;
   chan_shards = q.chan_shards ∙ p.chan_shards;
   user_shards = q.user_shards ∙ p.user_shards;

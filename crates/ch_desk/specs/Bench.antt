@@ -21,6 +21,7 @@ seen_user bench k = slice_index_or bench.users k []
 -- a bench as a desk: that of caller 0
 abbrev pub view_of : BenchModel → DeskView
 view_of bench = record {
+  house = ([], []);
   caller = 0;
   chan_shards = length bench.shards;
   user_shards = length bench.users;

@@ -1,5 +1,5 @@
 -- What contracts see of a desk.
-use Rattle.std.specs.Prelude.{◌≡◌, ◌≢◌, ◌<◌, ℕ}
+use Rattle.std.specs.Prelude.{◌≡◌, ◌≢◌, ◌<◌, ℕ, List}
 use Rattle.ch_config.specs.declared.config.Config.{Config}
 use Rattle.ch_history.specs.Entries.{ChanHistory, UserHistory}
 use Rattle.ch_history.specs.Placement.{BelongsTo, IsLegalAt, UserBelongsTo, IsUserLegalAt}
@@ -9,9 +9,14 @@ use Rattle.ch_protocol.specs.Shards.{Shards}
 use Rattle.ch_protocol.specs.declared.ask.Ask.{Ask}
 use Rattle.ch_protocol.specs.declared.ask.Ask.TheVariants.{Chan, User}
 
--- the number of the desk's caller, how many shards of each kind there are, and of each shard the list of entries as the
--- caller knows it
+-- the numbers that name the locks of a house, of each kind of shard; none where there are no locks
+abbrev pub House : Type 0
+House = List (List ℕ) × List (List ℕ)
+
+-- the house whose shards these are, the number of the desk's caller, how many shards of each kind there are, and of each
+-- shard the list of entries as the caller knows it
 pub record DeskView : Type 0 where
+  pub house : House
   pub caller : ℕ
   pub chan_shards : ℕ
   pub user_shards : ℕ
@@ -37,8 +42,9 @@ pub record IsLegalDesk (desk : DeskView) : Type 0 where
   pub chans : (k : ℕ) → k < desk.chan_shards → IsLegalAt (k, desk.chan_shards) (desk.chans k)
   pub users : (k : ℕ) → k < desk.user_shards → IsUserLegalAt (k, desk.user_shards) (desk.users k)
 
--- it is the desk of the same caller at as many shards
+-- it is the desk of the same caller at the same shards
 pub record IsSameDesk (old new : DeskView) : Type 0 where
+  pub house : new.house ≡ old.house
   pub caller : new.caller ≡ old.caller
   pub chan_shards : new.chan_shards ≡ old.chan_shards
   pub user_shards : new.user_shards ≡ old.user_shards

@@ -11,3 +11,4 @@ pub mod OwnCounts
 pub mod Crossing
 pub mod AnswerKinds
 pub mod DeskCalls
+pub mod HouseNames

@@ -5,6 +5,7 @@ ghost use Rattle.ch_base.specs.declared.memory.Memory.{Memory};
 ghost use Rattle.ch_base.specs.Growth.{own, GrowsBy};
 ghost use Rattle.ch_turn.specs.Callers.{CallersBelow, GrowsByOthers};
 ghost use Rattle.ch_desk.specs.OwnEntries.{entries_by};
+ghost use Rattle.ch_house.specs.DeskViews.{NamesTellHouses};
 ghost use Rattle.ch_house.specs.OwnEntries.{total_below};
 
 /// What each caller did on a shard is in its history once, in that caller's order, and nothing else is.
@@ -21,4 +22,10 @@ pub fn callers_entries_stay<C, A>()
     ensures just { (n : ℕ) (mine : ℕ → List (Entry C A)) (log : List (Entry C A)) → CallersBelow n log
         → ((w : ℕ) → w < n → GrowsByOthers w (mine w) log)
         → total_below n (λ w. length (entries_by w (mine w))) ≡ length log }
+{}
+
+/// A desk that still shows the names of a house's locks is a desk of that house. So whoever lends a desk to code that takes
+/// any desk can give its passes back to their list afterwards.
+pub fn names_tell_houses()
+    ensures { NamesTellHouses }
 {}

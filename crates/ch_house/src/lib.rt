@@ -27,7 +27,7 @@ mod seating;
 pub use counts::{HouseClosed, ShardCount};
 pub use desk::HouseDesk;
 pub use house::House;
-pub use laws::callers_entries_stay;
+pub use laws::{callers_entries_stay, names_tell_houses};
 pub use locks::{ClosedList, Locks, ValueList};
 pub use passes::Passes;
 pub use passes_list::PassesList;
