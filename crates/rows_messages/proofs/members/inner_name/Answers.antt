@@ -1,5 +1,5 @@
 use Rattle.ch_base.specs.JsonTree.{object as object_form}
-use Rattle.rows_texts.proofs.members.inner_name.Goals as goal
+use Rattle.rows_messages.proofs.members.inner_name.Goals as goal
 
 pub object_member-requires : goal.object_member-requires
 object_member-requires c = let r = c.requires in (r.members, r.span, c.top-top.ensures c.args.text.now (object_form r.members r.span) r.spelled r.tree)

@@ -1,5 +1,5 @@
 use Rattle.ch_base.specs.JsonTree.{object as object_form}
-use Rattle.rows_texts.proofs.members.list_strings.Goals as goal
+use Rattle.rows_messages.proofs.members.list_strings.Goals as goal
 
 pub array_member-requires : goal.array_member-requires
 array_member-requires c = let r = c.requires in (r.members, r.span, c.top-top.ensures c.args.text.now (object_form r.members r.span) r.spelled r.tree)
