@@ -1,5 +1,5 @@
 -- What the bytes of a request did, by what they are.
-use Rattle.std.proofs.Common.{◌≡◌, ℕ, false, ◌∙◌, ap, sym, refl, subst, List, ◌++◌, inl, inr}
+use Rattle.std.proofs.Common.{◌≡◌, ℕ, false, ◌∙◌, ap, refl, subst, List, ◌++◌, inl, inr}
 use Rattle.std.specs.Prelude.{None, Result, Ok, Err, OnOk}
 use Rattle.ch_base.specs.declared.memory.Memory.{Memory}
 use Rattle.ch_config.specs.declared.config.Config.{Config}

@@ -1,12 +1,19 @@
 -- What the bytes of a request did.
-use Rattle.std.specs.Prelude.{◌≡◌, ℕ, ◌++◌, List, Option, MatchBool}
+use Rattle.std.specs.Prelude.{◌≡◌, ◌⊎◌, ℕ, ◌++◌, false, List, [], Option, MatchBool, Result}
+use Rattle.ch_answer.specs.Answers.{IsAnswer}
+use Rattle.ch_base.specs.declared.memory.Memory.{Memory}
 use Rattle.ch_config.specs.declared.config.Config.{Config}
 use Rattle.ch_desk.specs.AloneCalls.{IsAt}
+use Rattle.ch_desk.specs.OwnEntries.{Makes}
 use Rattle.ch_desk.specs.Views.{DeskView}
+use Rattle.ch_protocol.specs.Asks.{Asked}
 use Rattle.ch_requests.specs.Authorization.{is_authorized}
 use Rattle.ch_requests.specs.Plans.{planned}
 use Rattle.ch_requests.specs.Triggers.{ReadsBody}
+use Rattle.ch_requests.specs.Verdict.{IsVerdict}
+use Rattle.ch_requests.specs.declared.reply.Reply.{Reply}
 use Rattle.ch_requests.specs.declared.request.Look.{Look}
+use Rattle.ch_requests.specs.declared.request.Look.TheVariants.{Ready}
 use Rattle.ch_requests.specs.declared.request.Request.{Request}
 use Rattle.ch_requests.specs.declared.trigger.Trigger.{Trigger}
 use Rattle.ch_transcript.specs.Printing.{start_second}
@@ -35,3 +42,11 @@ pub record Answers (config : Config) (at : ℕ) (q : Request) (shards : Shards) 
   pub events : Option (List Trigger)
   pub reads : MatchBool (is_authorized config q at) (ReadsBody q.route q.body events) (Unit {0})
   pub writes : Writes desk old new (answers shards (planned config start_second q at events))
+
+-- The caller's own calls are those of the request that the bytes are, in order, up to one that found no memory. There is none
+-- where they are no whole request, or there was no memory to read them.
+pub record MakesCalls (config : Config) (at : ℕ) (bytes : List ℕ) (old new : DeskView) : Type 0 where
+  pub asked : List Asked
+  pub makes : Makes asked old new
+  pub are : (asked ≡ []) ⊎ ((q : Request) × (result : Result Reply Memory) × IsVerdict config.app_id bytes false (Ready q)
+      × IsAnswer (record { config = config; start = start_second; now = at }) q asked result)

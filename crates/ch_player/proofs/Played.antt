@@ -16,13 +16,14 @@ use Rattle.ch_transcript.specs.Joining.{join_text, sign_in_text}
 use Rattle.ch_transcript.specs.Requests.{api_bytes}
 use Rattle.ch_protocol.specs.Shards.{Shards}
 use Rattle.ch_transcript.specs.Exchanges.{Comes, of_exchange}
+use Rattle.ch_transcript.specs.Gathering.{gathers}
 use Rattle.ch_transcript.specs.Obeying.{Sense, Hears, Means, of_socket, takes_turn, tails, opens, greeting, most_opened, publishes, obeyed}
 use Rattle.ch_transcript.specs.Outcomes.{at_moment}
 use Rattle.ch_transcript.specs.Progress.{Progress, Played, Socket, has_socket, is_live, socket_of, quietly}
 use Rattle.ch_transcript.specs.Rounds.{rounded, rounds}
 use Rattle.ch_transcript.specs.Turns.{Turn, ticks, ends_turn}
 use Rattle.ch_transcript.specs.declared.commands.Command.{Command}
-use Rattle.ch_transcript.specs.declared.commands.Command.TheVariants.{Open, Say, Join, SignIn, Lose, Tick, Publish, Tail, Api, Http}
+use Rattle.ch_transcript.specs.declared.commands.Command.TheVariants.{Open, Say, Join, SignIn, Lose, Tick, Publish, Tail, Api, Hooks, Http}
 use Rattle.ch_transcript.specs.declared.commands.Method.{Method}
 use Rattle.ch_transcript.specs.declared.commands.Line.{Line}
 use Rattle.ch_transcript.specs.declared.commands.Line.TheVariants.{Skipped, Timed, Bad}
@@ -104,7 +105,7 @@ hears_text p number text r live reads = subst (λ t. MatchBool t (Reads text r) 
 abbrev pub opened : Progress → ℕ → Option ℕ → Played
 opened p at refusal = record {
   text = greeting (length p.sockets + 1) refusal;
-  next = record { at = p.at; sockets = p.sockets ++ new_socket at refusal ∷ []; shards = p.shards };
+  next = record { at = p.at; sockets = p.sockets ++ new_socket at refusal ∷ []; shards = p.shards; webhooks = p.webhooks };
 }
 
 pub opens_is : (p : Progress) (at : ℕ) (refusal : Option ℕ) → length p.sockets < most_opened → Some (opened p at refusal) ≡ opens p at refusal
@@ -165,6 +166,10 @@ pub obeys_tail : (config : Config) (p : Progress) (at : ℕ) (command : Command)
     → (x : Option Played) → x ≡ tails config p k → Obeys config p at command x
 obeys_tail config p at command k is x h = subst (Of config p at x) (sym is) (read_as no_reading, tt, h)
 
+pub obeys_hooks : (config : Config) (p : Progress) (at : ℕ) (command : Command) → command ≡ Hooks
+    → (x : Option Played) → x ≡ Some (gathers config p at) → Obeys config p at command x
+obeys_hooks config p at command is x h = subst (Of config p at x) (sym is) (read_as no_reading, tt, h)
+
 pub obeys_api : (config : Config) (p : Progress) (at : ℕ) (command : Command) (method : Method) (path query body bytes : List ℕ) → command ≡ Api method path query body
     → bytes ≡ api_bytes config at method path query body → (x : Option Played) → ExchangesOf config p at bytes x → Obeys config p at command x
 obeys_api config p at command method path query body bytes is same x (e, (look, events, comes, f), h) =
@@ -188,7 +193,7 @@ obeys_whole config p at command player after old mid new h runs =
     let q = h.played.next in
     let r = rounds (length q.sockets + 1) config q.at q.sockets q.shards in
     record {
-      played = record { text = h.played.text ++ r.text; next = record { at = q.at; sockets = r.sockets; shards = r.shards } };
+      played = record { text = h.played.text ++ r.text; next = record { at = q.at; sockets = r.sockets; shards = r.shards; webhooks = q.webhooks } };
       is = (h.is.0, h.is.1, ap (rounded config) h.is.2);
       text = runs.text ∙ ap (λ z. z ++ r.text) h.text ∙ append_assoc old h.played.text r.text;
       next = runs.next;

@@ -5,3 +5,4 @@ pub mod Playing
 pub mod Rounding
 pub mod Taking
 pub mod Steps
+pub mod Hooks

@@ -2,6 +2,7 @@
 #![tactic(auto)]
 
 mod greeting;
+mod hooks;
 mod json_string;
 mod line_fault;
 mod player;

@@ -1,4 +1,4 @@
-ghost use Rattle.std.specs.Prelude.{◌≡◌, ◌≤◌, ◌+◌, ℕ, List, true, IfOk, OnOk, MatchResult, [], length};
+ghost use Rattle.std.specs.Prelude.{◌≡◌, ◌≤◌, ◌+◌, ℕ, List, true, IfErr, IfOk, OnErr, OnOk, MatchResult, [], length};
 ghost use Rattle.std.specs.Prelude.{Some};
 ghost use Rattle.ch_base.specs.JsonText.{IsJsonString};
 ghost use Rattle.ch_config.specs.Config.{IsConfig};
@@ -7,6 +7,7 @@ ghost use Rattle.ch_history.specs.Limits.{is_event_name};
 ghost use Rattle.ch_protocol.specs.Targets.{target_refusal};
 ghost use Rattle.ch_player.specs.Benches.{HasShards};
 ghost use Rattle.ch_transcript.specs.Commands.{latest_moment, IsCommand, IsLine};
+ghost use Rattle.ch_transcript.specs.Gathering.{gathers};
 ghost use Rattle.ch_transcript.specs.Obeying.{opens, tails, publishes, may_except};
 ghost use Rattle.ch_transcript.specs.Outcomes.{Plays};
 ghost use Rattle.ch_transcript.specs.Progress.{Progress, Played, beginning};
@@ -14,6 +15,7 @@ ghost use Rattle.ch_transcript.specs.Rounds.{rounds};
 ghost use Rattle.ch_transcript.specs.Turns.{ticks, ends_turn};
 
 use crate::greeting::greet;
+use crate::hooks::gather_hooks;
 use crate::json_string::is_json_string;
 use crate::line_fault::LineFault;
 use crate::publishing::{ask_publish, publish_call};
@@ -22,11 +24,12 @@ use crate::seat::Seat;
 use crate::seats::{add_session, has_socket, put_session, take_session};
 use ch_backend::{api_request, exchange};
 use ch_base::{Memory, Text};
+use ch_batch::Batcher;
 use ch_config::Config;
 use ch_desk::Bench;
 use ch_script::read_line;
 use ch_socket::{hear, lose, tick};
-use ch_transcript::{Command, Line};
+use ch_transcript::{Command, Line, START_SECOND};
 use ch_wording::{join_text, put_sent, put_tail, sign_in_text};
 use std::alloc::Global;
 
@@ -41,6 +44,8 @@ pub struct Player {
     at: u64,
     seats: Vec<Option<Seat>>,
     bench: Bench,
+    // Its batches count as sent as soon as they are made, so none waits.
+    batcher: Batcher,
     ghost good: { IsConfig config },
     ghost shards: { HasShards config bench },
     ghost few: { length seats.items ≤ 65536 },
@@ -48,7 +53,7 @@ pub struct Player {
 }
 
 impl Player {
-    ghost use Rattle.ch_player.specs.Playing.{IsAt, IsSound, PlaysAs, IsRefused, PlaysLine, RunsOn, config_of};
+    ghost use Rattle.ch_player.specs.Playing.{IsAt, IsSound, IsUntouched, PlaysAs, IsRefused, PlaysLine, RunsOn, config_of};
     ghost use Rattle.ch_transcript.specs.declared.commands.Line.{Line};
     ghost use Rattle.ch_player.specs.Steps.{TurnOf, HearsOf, Obeys, ObeysWhole, Publishes, MayPublish, ExchangesOf};
 
@@ -60,27 +65,39 @@ impl Player {
         ensures over { IfOk result (λ player. config_of player ≡ config) }
     {
         let bench = Bench::new(alloc, config.chan_shards, config.user_shards)?;
+        let batcher = Batcher::new(alloc, &config.key, &config.secret, START_SECOND)?;
         Ok(Player {
             alloc,
             config,
             at: 0,
             seats: Vec::new(alloc),
             bench,
+            batcher,
         })
     }
 
-    /// Plays one line, which is given without its line end, and adds its output. A line that isn't played
-    /// may leave a part of its output.
+    /// Plays one line, which is given without its line end, and adds its output. The output of a line that isn't played is
+    /// left out whole. What is no transcript line changes nothing; a player that found no memory isn't played on.
     pub fn play(&mut self, line: &[u8], out: &mut Vec<u8>) -> Result<(), LineFault>
         requires { IsSound self.old }
         ensures plays { (p : Progress) → IsAt self.old p → MatchResult result
             (λ _. PlaysAs self.new out.old.items out.new.items (Plays (config_of self.old) p line.now))
             (λ fault. IsRefused fault (Plays (config_of self.old) p line.now)) }
         ensures sound { OnOk result (IsSound self.new) }
+        ensures refused { IfErr result (λ fault. IsUntouched fault self.old self.new out.old.items out.new.items) }
         ensures over { config_of self.new ≡ config_of self.old }
+        ensures output { OnErr result (out.new.items ≡ out.old.items) }
     {
         let line = read_line(self.alloc, line)?;
-        self.play_line(&line, out)
+        let mut text = Vec::new(self.alloc);
+        match self.play_line(&line, &mut text) {
+            Ok(()) => {}
+            Err(fault) => return Err(fault),
+        }
+        match out.extend_from_slice(text.as_slice()) {
+            Ok(()) => Ok(()),
+            Err(_) => Err(LineFault::Memory),
+        }
     }
 
     fn play_line(&mut self, line: &Line, out: &mut Vec<u8>) -> Result<(), LineFault>
@@ -90,6 +107,7 @@ impl Player {
             (λ _. PlaysAs self.new out.old.items out.new.items (PlaysLine (config_of self.old) p line.now))
             (λ fault. IsRefused fault (PlaysLine (config_of self.old) p line.now)) }
         ensures sound { OnOk result (IsSound self.new) }
+        ensures refused { IfErr result (λ fault. IsUntouched fault self.old self.new out.old.items out.new.items) }
         ensures over { config_of self.new ≡ config_of self.old }
     {
         match line {
@@ -108,13 +126,21 @@ impl Player {
             (λ _. PlaysAs self.new out.old.items out.new.items (PlaysLine (config_of self.old) p (Line.Timed at command.now)))
             (λ fault. IsRefused fault (PlaysLine (config_of self.old) p (Line.Timed at command.now))) }
         ensures sound { OnOk result (IsSound self.new) }
+        ensures refused { IfErr result (λ fault. IsUntouched fault self.old self.new out.old.items out.new.items) }
         ensures over { config_of self.new ≡ config_of self.old }
     {
         if at < self.at {
             return Err(LineFault::NotALine);
         }
+        let before = self.at;
         self.at = at;
-        self.obey_whole(at, command, out)
+        match self.obey_whole(at, command, out) {
+            Ok(()) => Ok(()),
+            Err(fault) => {
+                self.at = before;
+                Err(fault)
+            }
+        }
     }
 
     fn obey_whole(&mut self, at: u64, command: &Command, out: &mut Vec<u8>) -> Result<(), LineFault>
@@ -125,6 +151,7 @@ impl Player {
             (λ _. PlaysAs self.new out.old.items out.new.items (ObeysWhole (config_of self.old) p at command.now))
             (λ fault. IsRefused fault (ObeysWhole (config_of self.old) p at command.now)) }
         ensures sound { OnOk result (IsSound self.new) }
+        ensures refused { IfErr result (λ fault. IsUntouched fault self.old self.new out.old.items out.new.items) }
         ensures over { config_of self.new ≡ config_of self.old }
     {
         match self.obey(at, command, out) {
@@ -163,6 +190,7 @@ impl Player {
             (λ _. PlaysAs self.new out.old.items out.new.items (Obeys (config_of self.old) p at command.now))
             (λ fault. IsRefused fault (Obeys (config_of self.old) p at command.now)) }
         ensures sound { OnOk result (IsSound self.new) }
+        ensures refused { IfErr result (λ fault. IsUntouched fault self.old self.new out.old.items out.new.items) }
         ensures over { config_of self.new ≡ config_of self.old }
     {
         match command {
@@ -204,6 +232,7 @@ impl Player {
                 let bytes = api_request(self.alloc, &self.config, at, *method, path, query, body)?;
                 self.exchange(at, bytes.as_slice(), out)
             }
+            Command::Hooks => self.hooks(at, out),
             Command::Http { bytes } => self.exchange(at, bytes.as_slice(), out),
         }
     }
@@ -215,6 +244,7 @@ impl Player {
             (λ _. PlaysAs self.new out.old.items out.new.items (λ x. x ≡ opens p at (target_refusal (config_of self.old).key target.now)))
             (λ fault. IsRefused fault (λ x. x ≡ opens p at (target_refusal (config_of self.old).key target.now))) }
         ensures sound { OnOk result (IsSound self.new) }
+        ensures refused { IfErr result (λ fault. IsUntouched fault self.old self.new out.old.items out.new.items) }
         ensures over { config_of self.new ≡ config_of self.old }
     {
         if self.seats.len() >= MOST_OPENED {
@@ -239,6 +269,7 @@ impl Player {
             (λ _. PlaysAs self.new out.old.items out.new.items (HearsOf (config_of self.old) p at number text.now))
             (λ fault. IsRefused fault (HearsOf (config_of self.old) p at number text.now)) }
         ensures sound { OnOk result (IsSound self.new) }
+        ensures refused { IfErr result (λ fault. IsUntouched fault self.old self.new out.old.items out.new.items) }
         ensures over { config_of self.new ≡ config_of self.old }
     {
         if !has_socket(self.seats.as_slice(), number) {
@@ -270,6 +301,7 @@ impl Player {
             (λ _. PlaysAs self.new out.old.items out.new.items (TurnOf p number (ticks number at)))
             (λ fault. IsRefused fault (TurnOf p number (ticks number at))) }
         ensures sound { OnOk result (IsSound self.new) }
+        ensures refused { IfErr result (λ fault. IsUntouched fault self.old self.new out.old.items out.new.items) }
         ensures over { config_of self.new ≡ config_of self.old }
     {
         if !has_socket(self.seats.as_slice(), number) {
@@ -300,6 +332,7 @@ impl Player {
             (λ _. PlaysAs self.new wrote wrote (TurnOf p number (ends_turn [] number at)))
             (λ fault. IsRefused fault (TurnOf p number (ends_turn [] number at))) }
         ensures sound { OnOk result (IsSound self.new) }
+        ensures refused { (wrote : List ℕ) → IfErr result (λ fault. IsUntouched fault self.old self.new wrote wrote) }
         ensures over { config_of self.new ≡ config_of self.old }
     {
         if !has_socket(self.seats.as_slice(), number) {
@@ -331,6 +364,7 @@ impl Player {
             (λ _. PlaysAs self.new out.old.items out.new.items (Publishes (config_of self.old) p at channel.now event.now body.now except))
             (λ fault. IsRefused fault (Publishes (config_of self.old) p at channel.now event.now body.now except)) }
         ensures sound { OnOk result (IsSound self.new) }
+        ensures refused { IfErr result (λ fault. IsUntouched fault self.old self.new out.old.items out.new.items) }
         ensures over { config_of self.new ≡ config_of self.old }
     {
         if !self.may_publish(body, except)? {
@@ -391,6 +425,7 @@ impl Player {
             (λ _. PlaysAs self.new out.old.items out.new.items (ExchangesOf (config_of self.old) p at bytes.now))
             (λ fault. IsRefused fault (ExchangesOf (config_of self.old) p at bytes.now)) }
         ensures sound { OnOk result (IsSound self.new) }
+        ensures refused { IfErr result (λ fault. IsUntouched fault self.old self.new out.old.items out.new.items) }
         ensures over { config_of self.new ≡ config_of self.old }
     {
         let done = exchange(
@@ -409,18 +444,38 @@ impl Player {
         }
     }
 
+    /// Takes the webhook events that wait, and prints the batches that they are cut into.
+    fn hooks(&mut self, at: u64, out: &mut Vec<u8>) -> Result<(), LineFault>
+        requires sound { IsSound self.old }
+        requires moment { at ≤ latest_moment }
+        ensures gathers { (p : Progress) → IsAt self.old p → MatchResult result
+            (λ _. PlaysAs self.new out.old.items out.new.items (λ x. x ≡ Some (gathers (config_of self.old) p at)))
+            (λ fault. IsRefused fault (λ x. x ≡ Some (gathers (config_of self.old) p at))) }
+        ensures sound { OnOk result (IsSound self.new) }
+        ensures refused { IfErr result (λ fault. IsUntouched fault self.old self.new out.old.items out.new.items) }
+        ensures over { config_of self.new ≡ config_of self.old }
+    {
+        let done = gather_hooks(self.alloc, &mut self.bench, &mut self.batcher, at, out);
+        self.bench.alone();
+        match done {
+            Ok(()) => Ok(()),
+            Err(Memory) => Err(LineFault::Memory),
+        }
+    }
+
     fn tail(&mut self, shard: u64, out: &mut Vec<u8>) -> Result<(), LineFault>
         requires sound { IsSound self.old }
         ensures tails { (p : Progress) → IsAt self.old p → MatchResult result
             (λ _. PlaysAs self.new out.old.items out.new.items (λ x. x ≡ tails (config_of self.old) p shard))
             (λ fault. IsRefused fault (λ x. x ≡ tails (config_of self.old) p shard)) }
         ensures sound { OnOk result (IsSound self.new) }
+        ensures refused { IfErr result (λ fault. IsUntouched fault self.old self.new out.old.items out.new.items) }
         ensures over { config_of self.new ≡ config_of self.old }
     {
         if shard >= self.config.chan_shards {
             return Err(LineFault::NotALine);
         }
-        put_tail(out, self.bench.shard(shard))?;
+        put_tail(self.alloc, out, self.bench.shard(shard))?;
         Ok(())
     }
 }

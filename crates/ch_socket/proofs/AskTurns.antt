@@ -9,11 +9,11 @@ use Rattle.ch_base.specs.declared.frame.Frame.TheVariants.{Error}
 use Rattle.ch_desk.specs.OwnEntries.{IsAnswered, was_made}
 use Rattle.ch_dispatch.specs.MadeAsks.{AreMadeFrom, outcomes_from, settled_all}
 use Rattle.ch_dispatch.specs.Messages.{comes_to}
-use Rattle.ch_dispatch.specs.Outcomes.{end_in, end_of, frames_in, frames_of, stops}
+use Rattle.ch_dispatch.specs.Outcomes.{end_in, frames_in, stops}
 use Rattle.ch_protocol.specs.Asks.{Asked, ComesOf, asks_of, came_of}
 use Rattle.ch_protocol.specs.Sessions.{outcome}
 use Rattle.ch_protocol.specs.Settling.{SettledAsk}
-use Rattle.ch_protocol.specs.Shards.{Shards, after_ask, after_asks, loses, made_of, made_of_all}
+use Rattle.ch_protocol.specs.Shards.{Shards, after_ask, after_asks, made_of, made_of_all}
 use Rattle.ch_protocol.specs.declared.ask.Ask.{Ask}
 use Rattle.ch_protocol.specs.declared.ask.Made.{Made}
 use Rattle.ch_protocol.specs.declared.ask.Made.TheVariants as made
@@ -24,7 +24,7 @@ use Rattle.ch_protocol.specs.declared.heard.Settled.TheVariants as settled
 use Rattle.ch_session.specs.Judging as judging
 use Rattle.ch_socket.specs.Responses.{ending_lines}
 use Rattle.ch_transcript.specs.Printing.{frame_line, end_lines}
-use Rattle.ch_transcript.specs.Progress.{Socket, closed}
+use Rattle.ch_transcript.specs.Progress.{Socket}
 use Rattle.ch_transcript.specs.Turns.{Turn, after_turn, asks_all, asks_one, does, ends_turn, goes_on, settled_socket, writes}
 
 -- the lines of frames

@@ -1,6 +1,6 @@
 -- A socket that hears a text, or is silent.
-use Rattle.std.proofs.Common.{◌≡◌, ◌≢◌, ◌∙◌, ℕ, Bool, true, false, List, [], ◌++◌, All, ap, sym, subst, refl, append-nil, inl, inr}
-use Rattle.std.specs.Prelude.{Option, Some, None, Result, Ok, Err, IfOk, OnOk, is_some, not}
+use Rattle.std.proofs.Common.{◌≡◌, ◌∙◌, ℕ, Bool, List, ◌++◌, ap, sym, subst, refl, append-nil, inl, inr}
+use Rattle.std.specs.Prelude.{Option, Some, None, Result, Ok, Err, IfOk, is_some, not}
 use Rattle.std.proofs.lemmas.Result.{IfOk-weaker}
 use Rattle.ch_base.specs.declared.memory.Memory.{Memory}
 use Rattle.std.specs.Option.{option_to_list}
@@ -9,7 +9,7 @@ use Rattle.ch_config.specs.declared.config.Config.{Config}
 use Rattle.ch_desk.specs.AloneCalls.{CallsAlone, IsAlone, IsAt}
 use Rattle.ch_desk.specs.Views.{DeskView, IsDeskOf}
 use Rattle.ch_desk.specs.OwnEntries.{Makes}
-use Rattle.ch_dispatch.specs.Hearing.{AtDesk, Hears}
+use Rattle.ch_dispatch.specs.Hearing.{Hears}
 use Rattle.ch_dispatch.specs.MadeAsks.{settled_all}
 use Rattle.ch_dispatch.specs.Messages.{comes_to}
 use Rattle.ch_dispatch.specs.Outcomes.{end_in, frames_in}
@@ -20,16 +20,18 @@ use Rattle.ch_protocol.specs.Readings.{Reading, Reads}
 use Rattle.ch_protocol.specs.Sessions.{judged}
 use Rattle.ch_protocol.specs.Shards.{Shards, after_asks}
 use Rattle.ch_protocol.specs.declared.client_message.ClientMessage.TheVariants.{Ping, Pong, Subscribe, Unsubscribe, SignIn, Say}
-use Rattle.ch_rate.specs.Quiet.{Quiet}
+use Rattle.ch_rate.specs.Quiet.{Quiet, due_of, quiet_after}
+use Rattle.ch_rate.specs.declared.activity.Due.{Due}
 use Rattle.ch_session.specs.Judging.{user_data_of}
-use Rattle.ch_session.specs.Kept.{Kept, IsOver}
+use Rattle.ch_protocol.specs.Settling.{SettledAsk}
+use Rattle.ch_session.specs.Kept.{Kept, IsOver, IsSession}
 use Rattle.ch_socket.specs.Responses.{TellsOf, reply_lines, ending_lines}
 use Rattle.ch_socket.specs.Sockets.{IsOpen, IsReady, TakesTurn}
 use Rattle.ch_socket.specs.Turns.{HearsAs, TakesPart}
 use Rattle.ch_socket.proofs.AskTurns.{does_as, ends_as, frame_lines, message_answered, outcome_turn, was_heard, with_asks}
 use Rattle.ch_transcript.specs.Printing.{start_second, frame_line}
 use Rattle.ch_transcript.specs.Progress.{Socket}
-use Rattle.ch_transcript.specs.Turns.{data_of, does, heard_socket, hears, session_of}
+use Rattle.ch_transcript.specs.Turns.{data_of, does, heard_socket, hears, session_of, ticks, ticks_as}
 
 pub ready_quiet : (config : Config) (number : ℕ) (before after : Kept) (quiet : Quiet) → after ≡ record before { quiet = quiet }
     → IsReady config number before → IsReady config number after
@@ -130,3 +132,16 @@ pub hears_whole : (config : Config) (number at : ℕ) (text : List ℕ) (s : Soc
 hears_whole config number at text s shards goes_on session mid desk old new r part took =
     IfOk-weaker r (λ left. TakesTurn number left desk old new (hears config number at part.0 s shards)) (λ left. HearsAs config number at text s shards left desk old new)
     (λ left t. (part.0, part.1, t)) took
+
+-- what is due of a silent socket was told, before the losses of its end
+pub ticks_part : (number at : ℕ) (session ticked : Kept) (s : Socket) (shards : Shards) (desk : DeskView) (due : Due) (goes_on : Bool) (old new : List ℕ)
+    → due ≡ due_of session.quiet at → ticked ≡ record session { quiet = quiet_after session.quiet at }
+    → ((start n : ℕ) (asks : List SettledAsk) → IsSession session start n asks → IsSession ticked start n asks)
+    → ((t : Socket) → IsOpen number ticked t → IsAt desk shards → TakesPart goes_on number at ticked desk old new (ticks_as number at due t shards))
+    → IsOpen number session s → IsAt desk shards → TakesPart goes_on number at ticked desk old new (ticks number at s shards)
+ticks_part number at session ticked s shards desk due goes_on old new is_due same stands told socket lists =
+    let quiet : ticked.quiet ≡ quiet_after s.quiet at = ap (λ (k : Kept). k.quiet) same ∙ ap (λ q. quiet_after q at) socket.quiet in
+    let open_still : IsOpen number ticked (record { is_open = s.is_open; quiet = quiet_after s.quiet at; asks = s.asks }) =
+    record { lives = socket.lives; session = stands start_second number s.asks socket.session; quiet = quiet } in
+    subst (λ d. TakesPart goes_on number at ticked desk old new (ticks_as number at d (record { is_open = s.is_open; quiet = quiet_after s.quiet at; asks = s.asks }) shards))
+    (is_due ∙ ap (λ q. due_of q at) socket.quiet) (told _ open_still lists)

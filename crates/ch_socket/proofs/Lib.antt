@@ -1,3 +1,5 @@
 pub mod AskTurns
 pub mod HearSteps
 pub mod LossSteps
+pub mod Outputs
+pub mod NoLosses

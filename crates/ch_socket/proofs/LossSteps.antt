@@ -1,5 +1,5 @@
 -- The losses of a socket, made one after another over the row of the channel shards and then the user shards.
-use Rattle.std.proofs.Common.{◌≡◌, ◌≢◌, ◌∙◌, ℕ, zero, suc, ◌<◌, ◌≤◌, ◌+◌, ◌-◌, Bool, true, false, eqb, cond, List, ◌∷◌, length, All, ap, sym, subst, refl, inl, inr, arith}
+use Rattle.std.proofs.Common.{◌≡◌, ◌≢◌, ◌∙◌, ℕ, zero, suc, ◌<◌, ◌≤◌, ◌+◌, ◌-◌, Bool, true, false, eqb, cond, List, ◌∷◌, length, ap, sym, subst, refl, inl, inr, arith}
 use Rattle.std.specs.Prelude.{nat_lt, Result, Ok, Err, OnOk}
 use Rattle.std.proofs.lemmas.Bool.{cases_eq, cases_lt, lt-ltb, le-ltb, eq-eqb, ne_eqb, cond-true, cond-false}
 use Rattle.ch_base.specs.declared.channel.ChanCall.TheVariants.{Lost}
@@ -10,10 +10,10 @@ use Rattle.ch_desk.specs.Views.{DeskView}
 use Rattle.ch_dispatch.specs.Losses.{AreAllLosses, MakesLosses}
 use Rattle.ch_history.specs.Alone.{with_call, with_user_call}
 use Rattle.ch_protocol.specs.Asks.{Asked, asks_of}
-use Rattle.ch_protocol.specs.Settling.{SettledAsk, uses_chan, uses_user}
+use Rattle.ch_protocol.specs.Settling.{uses_chan, uses_user}
 use Rattle.ch_protocol.specs.Shards.{Shards, after_ask, after_asks, loses}
 use Rattle.ch_protocol.specs.declared.ask.Ask.{Ask}
-use Rattle.ch_session.specs.Kept.{Kept, losses_left}
+use Rattle.ch_session.specs.Kept.{Kept}
 use Rattle.ch_session.specs.Losses.{losses_from, loss_at}
 use Rattle.ch_session.specs.Told.{uses_place}
 use Rattle.ch_socket.specs.Sockets.{IsOpen}

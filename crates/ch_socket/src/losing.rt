@@ -1,11 +1,9 @@
-ghost use Rattle.std.specs.Prelude.{◌≡◌, List, OnOk};
+ghost use Rattle.std.specs.Prelude.{◌≡◌, OnOk};
 ghost use Rattle.ch_desk.specs.AloneCalls.{IsAlone, IsAt};
-ghost use Rattle.ch_desk.specs.OwnEntries.{Makes};
 ghost use Rattle.ch_history.specs.Limits.{IsMoment};
-ghost use Rattle.ch_protocol.specs.Asks.{Asked};
 ghost use Rattle.ch_protocol.specs.Shards.{Shards, loses};
 ghost use Rattle.ch_socket.specs.Sockets.{IsOpen};
-ghost use Rattle.ch_socket.specs.Turns.{MayTurn};
+ghost use Rattle.ch_socket.specs.Turns.{LosesAt, MayTurn};
 ghost use Rattle.ch_transcript.specs.Progress.{Socket};
 
 use ch_base::Memory;
@@ -13,7 +11,7 @@ use ch_desk::{Desk, calls_alone};
 use ch_session::Session;
 
 /// Makes the losses of the socket with this number, whose connection ends at the moment `at`: one on each
-/// shard that its session uses.
+/// shard that its session uses. Where there is no memory for one, those before it stay made.
 pub fn lose<R, D: Desk<R>>(
     rt: &R,
     desk: &mut D,
@@ -25,7 +23,7 @@ pub fn lose<R, D: Desk<R>>(
     requires ready { MayTurn number session (D.view desk.old) }
     ensures lost { (s : Socket) (shards : Shards) → IsOpen number session s → IsAt (D.view desk.old) shards → IsAlone (D.view desk.new)
         → OnOk result (IsAt (D.view desk.new) (loses number at s.asks shards)) }
-    ensures calls { (asked : List Asked) × Makes asked (D.view desk.old) (D.view desk.new) }
+    ensures calls { LosesAt at session (D.view desk.old) (D.view desk.new) }
 {
     calls_alone();
     let mut session = session;

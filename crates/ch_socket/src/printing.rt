@@ -1,4 +1,4 @@
-ghost use Rattle.std.specs.Prelude.{◌≡◌, ◌++◌, IfOk, OnOk, string_bytes, codes};
+ghost use Rattle.std.specs.Prelude.{◌≡◌, ◌++◌, IfOk, OnErr, OnOk, string_bytes, codes};
 ghost use Rattle.std.specs.Fmt.{decimal};
 ghost use Rattle.ch_base.specs.declared.frame.Frame.{Frame};
 ghost use Rattle.ch_transcript.specs.Printing.{socket_line, frame_line, close_line, end_lines, sent_line};
@@ -8,9 +8,10 @@ use ch_frames::print;
 use ch_transcript::START_SECOND;
 use std::alloc::Global;
 
-/// Adds a text to the output.
+/// Adds a text to the output. Where there is no memory the output stays as it is, here and in each call below.
 pub fn put(out: &mut Vec<u8>, text: &str) -> Result<(), Memory>
-    ensures { OnOk result (out.new.items ≡ out.old.items ++ text.now) }
+    ensures ok { OnOk result (out.new.items ≡ out.old.items ++ text.now) }
+    ensures err { OnErr result (out.new.items ≡ out.old.items) }
 {
     out.extend_from_slice(text.as_bytes())?;
     Ok(())
@@ -18,7 +19,8 @@ pub fn put(out: &mut Vec<u8>, text: &str) -> Result<(), Memory>
 
 /// Adds a socket's line.
 fn put_line(alloc: Global, out: &mut Vec<u8>, number: u64, text: &str) -> Result<(), Memory>
-    ensures { OnOk result (out.new.items ≡ out.old.items ++ socket_line number text.now) }
+    ensures ok { OnOk result (out.new.items ≡ out.old.items ++ socket_line number text.now) }
+    ensures err { OnErr result (out.new.items ≡ out.old.items) }
 {
     let line = line_of(alloc, number, text)?;
     put(out, line.as_str())
@@ -33,7 +35,8 @@ fn line_of(alloc: Global, number: u64, text: &str) -> Result<String, Memory>
 
 /// Adds the line of a frame that a socket is sent.
 pub fn put_frame(alloc: Global, out: &mut Vec<u8>, number: u64, frame: &Frame) -> Result<(), Memory>
-    ensures { OnOk result (out.new.items ≡ out.old.items ++ frame_line number frame.now) }
+    ensures ok { OnOk result (out.new.items ≡ out.old.items ++ frame_line number frame.now) }
+    ensures err { OnErr result (out.new.items ≡ out.old.items) }
 {
     let text = print(alloc, frame, START_SECOND)?;
     put_line(alloc, out, number, text.as_str())
@@ -41,17 +44,22 @@ pub fn put_frame(alloc: Global, out: &mut Vec<u8>, number: u64, frame: &Frame) -
 
 /// Adds the line of an error that a socket is sent.
 pub fn put_error(alloc: Global, out: &mut Vec<u8>, number: u64, code: u16) -> Result<(), Memory>
-    ensures { OnOk result (out.new.items ≡ out.old.items ++ frame_line number (Frame.Error code)) }
+    ensures ok { OnOk result (out.new.items ≡ out.old.items ++ frame_line number (Frame.Error code)) }
+    ensures err { OnErr result (out.new.items ≡ out.old.items) }
 {
     put_frame(alloc, out, number, &Frame::Error { code })
 }
 
 /// Adds the lines that end a connection with a code.
 pub fn put_end(alloc: Global, out: &mut Vec<u8>, number: u64, code: u16) -> Result<(), Memory>
-    ensures { OnOk result (out.new.items ≡ out.old.items ++ end_lines number code) }
+    ensures ok { OnOk result (out.new.items ≡ out.old.items ++ end_lines number code) }
+    ensures err { OnErr result (out.new.items ≡ out.old.items) }
 {
-    put_error(alloc, out, number, code)?;
-    put_close(alloc, out, number, code)
+    let mut lines = Vec::new(alloc);
+    put_error(alloc, &mut lines, number, code)?;
+    put_close(alloc, &mut lines, number, code)?;
+    out.extend_from_slice(lines.as_slice())?;
+    Ok(())
 }
 
 fn put_close(alloc: Global, out: &mut Vec<u8>, number: u64, code: u16) -> Result<(), Memory>

@@ -1,11 +1,9 @@
 ghost use Rattle.std.specs.Prelude.{◌≡◌, ℕ, List, IfOk};
 ghost use Rattle.ch_config.specs.declared.config.Config.{Config};
 ghost use Rattle.ch_desk.specs.AloneCalls.{IsAlone};
-ghost use Rattle.ch_desk.specs.OwnEntries.{Makes};
 ghost use Rattle.ch_history.specs.Limits.{IsMoment};
-ghost use Rattle.ch_protocol.specs.Asks.{Asked};
 ghost use Rattle.ch_socket.specs.Sockets.{IsReady, TakesTurn};
-ghost use Rattle.ch_socket.specs.Turns.{MayTurn, StaysReady, TakesPart};
+ghost use Rattle.ch_socket.specs.Turns.{LosesAt, MayTurn, StaysReady, TakesPart};
 ghost use Rattle.ch_transcript.specs.Turns.{Turn};
 
 use crate::losing::lose;
@@ -27,7 +25,7 @@ pub(crate) fn finish<R, D: Desk<R>>(
     ensures turn { (old new : List ℕ) (t : Turn) → TakesPart goes_on number at session (D.view desk.old) old new t → IsAlone (D.view desk.new)
         → IfOk result (λ left. TakesTurn number left (D.view desk.new) old new t) }
     ensures ready { (config : Config) → IsReady config number session → IfOk result (StaysReady config number) }
-    ensures calls { (asked : List Asked) × Makes asked (D.view desk.old) (D.view desk.new) }
+    ensures calls { LosesAt at session (D.view desk.old) (D.view desk.new) }
 {
     calls_chain();
     if goes_on {

@@ -1,4 +1,4 @@
-ghost use Rattle.std.specs.Prelude.{◌≡◌, ◌++◌, OnOk, IfOk, string_bytes};
+ghost use Rattle.std.specs.Prelude.{◌≡◌, ◌++◌, OnErr, OnOk, IfOk, string_bytes};
 ghost use Rattle.ch_base.specs.declared.channel.ChanAnswer.{ChanAnswer};
 ghost use Rattle.ch_transcript.specs.Printing.{sent_line};
 
@@ -6,9 +6,10 @@ use ch_base::{ChanAnswer, Memory};
 use std::alloc::Global;
 
 /// Adds the line of the counts that answer a publish, `sent <subscriptions> <users>`; nothing for
-/// another answer.
+/// another answer. Where there is no memory the output stays as it is.
 pub fn put_sent(alloc: Global, out: &mut Vec<u8>, answer: &ChanAnswer) -> Result<(), Memory>
-    ensures { OnOk result (out.new.items ≡ out.old.items ++ sent_line answer.now) }
+    ensures ok { OnOk result (out.new.items ≡ out.old.items ++ sent_line answer.now) }
+    ensures err { OnErr result (out.new.items ≡ out.old.items) }
 {
     match answer {
         ChanAnswer::Sent { subs, users } => {

@@ -1,18 +1,23 @@
-ghost use Rattle.std.specs.Prelude.{◌≡◌, ◌++◌, OnOk, map};
+ghost use Rattle.std.specs.Prelude.{◌≡◌, ◌++◌, OnErr, OnOk, map};
 ghost use Rattle.ch_history.specs.Entries.{ChanHistory};
 ghost use Rattle.ch_shard.specs.Stands.{Stands};
 ghost use Rattle.ch_transcript.specs.Printing.{tail_line};
 
 use ch_base::Memory;
 use ch_shard::ChanShard;
+use std::alloc::Global;
 
-/// Adds the line of the letters of the shard's last calls, at most 1,024, the oldest first.
-pub fn put_tail(out: &mut Vec<u8>, shard: &ChanShard) -> Result<(), Memory>
-    ensures { (h : ChanHistory) → Stands shard.now h → OnOk result (out.new.items ≡ out.old.items ++ tail_line h) }
+/// Adds the line of the letters of the shard's last calls, at most 1,024, the oldest first. Where there is no memory the
+/// output stays as it is.
+pub fn put_tail(alloc: Global, out: &mut Vec<u8>, shard: &ChanShard) -> Result<(), Memory>
+    ensures ok { (h : ChanHistory) → Stands shard.now h → OnOk result (out.new.items ≡ out.old.items ++ tail_line h) }
+    ensures err { OnErr result (out.new.items ≡ out.old.items) }
 {
-    out.extend_from_slice(b"tail ")?;
-    put_letters(out, shard)?;
-    out.push(b'\n')?;
+    let mut line = Vec::new(alloc);
+    line.extend_from_slice(b"tail ")?;
+    put_letters(&mut line, shard)?;
+    line.push(b'\n')?;
+    out.extend_from_slice(line.as_slice())?;
     Ok(())
 }
 

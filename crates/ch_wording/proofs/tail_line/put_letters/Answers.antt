@@ -1,4 +1,4 @@
-use Rattle.std.proofs.Common.{◌+◌, ◌++◌, ◌∷◌, [], ◌∙◌, sym, ap, take, take_all, append-nil, append_assoc, arith, rules}
+use Rattle.std.proofs.Common.{◌++◌, ◌∷◌, [], ◌∙◌, sym, ap, take, take_all, append-nil, append_assoc, arith}
 use Rattle.ch_wording.proofs.ShardTails.{letters, letters-take_more}
 use Rattle.ch_wording.proofs.tail_line.put_letters.Goals as goal
 

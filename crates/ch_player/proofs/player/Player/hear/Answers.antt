@@ -20,7 +20,7 @@ returns-in_default-clause-hears c = λ p is.
       played = quietly p;
       is = (no_reading, hears_nothing p c.args.number c.args.text.now taken.0, turn_quiet p c.args.number (hears c.args.self.now.config c.args.number c.args.at no_reading) there taken.0);
       text = sym (append-nil c.args.out.now.items);
-      next = record { at = is.at; seats = taken.1; shards = is.shards };
+      next = record { at = is.at; seats = taken.1; shards = is.shards; webhooks = is.webhooks };
     }
 
 pub returns-clause-hears : goal.returns-clause-hears
@@ -35,5 +35,5 @@ returns-clause-hears c = λ p is.
       played = takes_turn p c.args.number (turn s p.shards);
       is = (h.0, hears_text p c.args.number c.args.text.now h.0 taken.0 h.1, turn_taken p c.args.number turn there taken.0);
       text = h.2.text;
-      next = record { at = is.at; seats = c.put_session.ensures.put p.sockets (turn s p.shards).socket taken.2 h.2.socket; shards = h.2.shards };
+      next = record { at = is.at; seats = c.put_session.ensures.put p.sockets (turn s p.shards).socket taken.2 h.2.socket; shards = h.2.shards; webhooks = is.webhooks };
     }

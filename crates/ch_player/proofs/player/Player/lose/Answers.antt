@@ -20,7 +20,7 @@ returns-in_default-clause-loses c = λ p wrote is.
       played = quietly p;
       is = turn_quiet p c.args.number (ends_turn [] c.args.number c.args.at) there taken.0;
       text = sym (append-nil wrote);
-      next = record { at = is.at; seats = taken.1; shards = is.shards };
+      next = record { at = is.at; seats = taken.1; shards = is.shards; webhooks = is.webhooks };
     }
 
 pub returns-clause-loses : goal.returns-clause-loses
@@ -34,5 +34,5 @@ returns-clause-loses c = λ p wrote is.
       played = takes_turn p c.args.number (turn s p.shards);
       is = turn_taken p c.args.number turn there taken.0;
       text = sym (append-nil wrote);
-      next = record { at = is.at; seats = c.put_session.ensures.put p.sockets (turn s p.shards).socket taken.2 refl; shards = c.in_ok-lose.ensures.lost s p.shards taken.1 is.shards c.alone.ensures };
+      next = record { at = is.at; seats = c.put_session.ensures.put p.sockets (turn s p.shards).socket taken.2 refl; shards = c.in_ok-lose.ensures.lost s p.shards taken.1 is.shards c.alone.ensures; webhooks = is.webhooks };
     }

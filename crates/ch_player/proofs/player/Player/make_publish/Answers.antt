@@ -16,5 +16,5 @@ returns-clause-publishes c = λ p is.
       played = publishes c.args.self.now.config p c.args.at c.args.channel.now c.args.event.now c.args.body.now c.args.except;
       is = refl;
       text = text ∙ ap (λ a. c.args.out.now.items ++ sent_line a) asked.answered;
-      next = record { at = is.at; seats = is.seats; shards = asked.at_shards };
-    }) c.put_sent.ensures
+      next = record { at = is.at; seats = is.seats; shards = asked.at_shards; webhooks = is.webhooks };
+    }) c.put_sent.ensures.ok

@@ -1,7 +1,7 @@
 use Rattle.std.proofs.Common.{◌∙◌, ap}
 use Rattle.ch_transcript.specs.Joining.{join_text}
 use Rattle.ch_player.specs.Steps.{Obeys}
-use Rattle.ch_player.proofs.Played.{answer_map, obeys_open, obeys_say, obeys_join, obeys_sign_in, obeys_lose, obeys_tick, obeys_publish, obeys_tail, obeys_api, obeys_http}
+use Rattle.ch_player.proofs.Played.{answer_map, obeys_open, obeys_say, obeys_join, obeys_sign_in, obeys_lose, obeys_tick, obeys_publish, obeys_tail, obeys_hooks, obeys_api, obeys_http}
 use Rattle.ch_player.proofs.player.Player.obey.Goals as goal
 
 pub returns-in-Open-clause-obeys : goal.returns-in-Open-clause-obeys
@@ -50,6 +50,11 @@ returns-in_ok-bytes-in-Api-clause-obeys c = λ p is.
     answer_map c.exchange.result c.exchange.new.self c.args.out.now.items c.exchange.new.out.items _ (Obeys c.args.self.now.config p c.args.at c.args.command.now)
     (obeys_api c.args.self.now.config p c.args.at c.args.command.now c.in-Api.method c.in-Api.path c.in-Api.query c.in-Api.body c.as_slice.result.now c.in-Api.is
     (c.as_slice.ensures ∙ c.in_ok-bytes-in-Api.ensures)) (c.exchange.ensures.exchanges p is)
+
+pub returns-in-Hooks-clause-obeys : goal.returns-in-Hooks-clause-obeys
+returns-in-Hooks-clause-obeys c = λ p is.
+    answer_map c.hooks.result c.hooks.new.self c.args.out.now.items c.hooks.new.out.items _ (Obeys c.args.self.now.config p c.args.at c.args.command.now)
+    (obeys_hooks c.args.self.now.config p c.args.at c.args.command.now c.in-Hooks.is) (c.hooks.ensures.gathers p is)
 
 pub returns-in-Http-clause-obeys : goal.returns-in-Http-clause-obeys
 returns-in-Http-clause-obeys c = λ p is.

@@ -21,5 +21,6 @@ returns-clause-opens c = λ p is.
         at = is.at;
         seats = c.in_ok-add_session.ensures.added p.sockets s is.seats (subst (λ n. IsSocketOf n c.in_ok-session.session s) number greets.socket);
         shards = is.shards;
+        webhooks = is.webhooks;
       };
     }

@@ -10,6 +10,6 @@ returns-clause-tails c = λ p is.
     record {
       played = record { text = tail_line (p.shards.chans c.args.shard); next = p };
       is = tail_is c.args.self.now.config p c.args.shard (omega (arith, inside));
-      text = c.in_ok-put_tail.ensures (p.shards.chans c.args.shard) (subst (Stands c.shard.result.now) (is.shards.chans c.args.shard (omega (arith, inside, c.args.self.now.shards.chan_shards))) c.shard.ensures);
+      text = c.in_ok-put_tail.ensures.ok (p.shards.chans c.args.shard) (subst (Stands c.shard.result.now) (is.shards.chans c.args.shard (omega (arith, inside, c.args.self.now.shards.chan_shards))) c.shard.ensures);
       next = is;
     }

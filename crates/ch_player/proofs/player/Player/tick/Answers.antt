@@ -19,7 +19,7 @@ returns-in_default-clause-ticks c = λ p is.
       played = quietly p;
       is = turn_quiet p c.args.number (ticks c.args.number c.args.at) there taken.0;
       text = sym (append-nil c.args.out.now.items);
-      next = record { at = is.at; seats = taken.1; shards = is.shards };
+      next = record { at = is.at; seats = taken.1; shards = is.shards; webhooks = is.webhooks };
     }
 
 pub returns-clause-ticks : goal.returns-clause-ticks
@@ -34,7 +34,7 @@ returns-clause-ticks c = λ p is.
       played = takes_turn p c.args.number (turn s p.shards);
       is = turn_taken p c.args.number turn there taken.0;
       text = h.text;
-      next = record { at = is.at; seats = c.put_session.ensures.put p.sockets (turn s p.shards).socket taken.2 h.socket; shards = h.shards };
+      next = record { at = is.at; seats = c.put_session.ensures.put p.sockets (turn s p.shards).socket taken.2 h.socket; shards = h.shards; webhooks = is.webhooks };
     }
 
 pub returns-clause-sound : goal.returns-clause-sound
