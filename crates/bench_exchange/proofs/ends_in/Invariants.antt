@@ -1,0 +1,7 @@
+use Rattle.ch_desk.specs.Bench.{view_of}
+use Rattle.ch_desk.specs.Views.{IsDeskOf}
+use Rattle.ch_exchange.specs.Turns.{IsUnfinished}
+use Rattle.bench_exchange.proofs.ends_in.Given as goal
+
+abbrev pub invariant-loop-turn : goal.invariant-loop-turn
+invariant-loop-turn g l = IsUnfinished l.exchange.stage × IsDeskOf l.fn.config (view_of l.desk)
