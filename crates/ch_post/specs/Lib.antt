@@ -1,0 +1,4 @@
+pub mod StatusLines
+pub mod Requests
+pub mod Talks
+pub mod Posts

@@ -1,0 +1,5 @@
+//! Tests of posts over links in memory.
+#![tactic(auto)]
+
+#[cfg(test)]
+mod posts;
