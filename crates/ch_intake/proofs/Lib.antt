@@ -1,0 +1,5 @@
+pub mod Places
+pub mod OrderSteps
+pub mod QueueSteps
+pub mod InPlace
+pub mod Crossing

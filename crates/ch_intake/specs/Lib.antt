@@ -1,0 +1,5 @@
+pub mod Orders
+pub mod OrderLaws
+pub mod PassModels
+pub mod PassViews
+pub mod QueueRule
