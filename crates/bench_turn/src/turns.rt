@@ -1,79 +1,61 @@
 //! Calls under a turn lock.
-ghost use Rattle.std.specs.Prelude.{◌≡◌};
+ghost use Rattle.std.specs.Prelude.{◌≡◌, ◌≤◌, All, length, IfSome};
+ghost use Rattle.ch_turn.specs.PassModels.{LockModel};
 
-use ch_turn::{Add, Pass, Tally, TurnLock};
+use ch_turn::{Add, Pass, PassList, Tally, TurnLock};
 use std::alloc::Global;
 use std::sync::Wait;
-use std::thread::{Threads, join};
+use std::thread::{Threads, for_each_mut};
 
 /// Makes the calls with one pass.
-fn call_often<R: Wait>(rt: &R, lock: &TurnLock<Tally>, mut pass: Pass<Tally>, calls: u64)
-    requires { pass.lock ≡ lock.now }
+fn call_often<R: Wait>(rt: &R, lock: &TurnLock<Tally>, pass: &mut Pass<Tally>, calls: u64)
+    requires { pass.old.lock ≡ lock.now }
 {
     for _ in 0..calls {
-        let _answer = lock.call(rt, &mut pass, &Add);
+        let _answer = lock.call(rt, pass, &Add);
     }
 }
 
-/// Makes the calls with each pass, in two threads.
-fn call_in_two_threads<R: Threads + Wait + Sync>(
-    rt: &R,
-    lock: &TurnLock<Tally>,
-    one: Pass<Tally>,
-    two: Pass<Tally>,
-    calls: u64,
-)
-    requires { (one.lock ≡ lock.now) × (two.lock ≡ lock.now) }
-{
-    join(
-        rt,
-        move ||
-            requires { one.lock ≡ lock.now }
-        { call_often(rt, lock, one, calls) },
-        move ||
-            requires { two.lock ≡ lock.now }
-        { call_often(rt, lock, two, calls) },
-    );
-}
-
-/// The same in four threads.
-fn call_in_four_threads<R: Threads + Wait + Sync>(
-    rt: &R,
-    lock: &TurnLock<Tally>,
-    front: (Pass<Tally>, Pass<Tally>),
-    back: (Pass<Tally>, Pass<Tally>),
-    calls: u64,
-)
-    requires front { (front.0.lock ≡ lock.now) × (front.1.lock ≡ lock.now) }
-    requires back { (back.0.lock ≡ lock.now) × (back.1.lock ≡ lock.now) }
-{
-    join(
-        rt,
-        move ||
-            requires { (front.0.lock ≡ lock.now) × (front.1.lock ≡ lock.now) }
-        { call_in_two_threads(rt, lock, front.0, front.1, calls) },
-        move ||
-            requires { (back.0.lock ≡ lock.now) × (back.1.lock ≡ lock.now) }
-        { call_in_two_threads(rt, lock, back.0, back.1, calls) },
-    );
-}
-
-/// Makes the calls in 1, 2 or 4 threads. It makes none where there is no memory for the lock.
-pub fn run<R: Threads + Wait + Sync>(
-    rt: &R,
+/// So many passes of a lock.
+fn taken_passes(
     alloc: Global,
-    threads: u64,
-    calls: u64,
-) -> Option<()> {
-    let (lock, mut passes) = TurnLock::new(alloc, Tally { count: 0 }, 4).ok()?;
-    let first = passes.take(0)?;
-    let second = passes.take(1)?;
-    let third = passes.take(2)?;
-    let fourth = passes.take(3)?;
-    match threads {
-        1 => call_often(rt, &lock, first, calls),
-        2 => call_in_two_threads(rt, &lock, first, second, calls),
-        _ => call_in_four_threads(rt, &lock, (first, second), (third, fourth), calls),
+    passes: &mut PassList<Tally>,
+    callers: u64,
+) -> Option<Vec<Pass<Tally>>>
+    ensures { IfSome result (λ taken. All (λ p. p.lock ≡ passes.old.lock) taken.items) }
+{
+    let mut taken = Vec::new(alloc);
+    for caller in 0..callers {
+        taken.push(passes.take(caller)?).ok()?;
     }
+    Some(taken)
+}
+
+/// Each pass makes its calls in a thread of its own.
+fn call_in_threads<R: Threads + Wait + Sync>(
+    rt: &R,
+    lock: &TurnLock<Tally>,
+    passes: &mut [Pass<Tally>],
+    calls: u64,
+)
+    requires { All (λ p. p.lock ≡ lock.now) passes.old }
+{
+    let threads = passes.len();
+    if threads == 0 {
+        return;
+    }
+    let job = |_: usize, pass: &mut Pass<Tally>|
+        requires { pass.now.lock ≡ lock.now }
+    { call_often(rt, lock, pass, calls) };
+    for_each_mut(rt, passes, threads, &job);
+}
+
+/// Makes the calls in each of so many threads. It makes none where there is no memory for the lock.
+pub fn run<R: Threads + Wait + Sync>(rt: &R, alloc: Global, threads: u64, calls: u64) -> Option<()>
+    requires { (1 ≤ threads) × (threads ≤ 64) }
+{
+    let (lock, mut passes) = TurnLock::new(alloc, Tally { count: 0 }, threads).ok()?;
+    let mut taken = taken_passes(alloc, &mut passes, threads)?;
+    call_in_threads(rt, &lock, taken.as_mut_slice(), calls);
     Some(())
 }

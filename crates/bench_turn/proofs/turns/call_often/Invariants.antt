@@ -3,4 +3,4 @@ use Rattle.bench_turn.proofs.turns.call_often.Given as goal
 
 -- a call leaves the pass with its lock
 abbrev pub invariant-loop : goal.invariant-loop
-invariant-loop g l = l.pass.lock ≡ l.initial.pass.lock
+invariant-loop g l = l.pass.lock ≡ l.fn.pass.lock

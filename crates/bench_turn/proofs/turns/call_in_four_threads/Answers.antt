@@ -1,7 +1,0 @@
-use denote.Param.Send.{sendable, given_sync}
-use Rattle.std.proofs.Crossing.{crosses}
-use Rattle.ch_turn.proofs.TallyCrossing.{tally_pass, tally_lock}
-use Rattle.bench_turn.proofs.turns.call_in_four_threads.Goals as goal
-
-pub join-requires-send-F : goal.join-requires-send-F
-join-requires-send-F g c κs within = let rt = c.type_bounds.sync-R in search (sendable, crosses, given_sync, tally_pass, tally_lock) depth 24
