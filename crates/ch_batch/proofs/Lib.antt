@@ -1,0 +1,11 @@
+pub mod Joined
+pub mod Pieces
+pub mod Retries
+pub mod Cuts
+pub mod TakesInTurn
+pub mod PiecesJoined
+pub mod BatchLaws
+pub mod CollectLaws
+pub mod TakenEvents
+pub mod OtherShards
+pub mod WebhookLaws

@@ -1,0 +1,4 @@
+pub mod Events
+pub mod Batches
+pub mod Batching
+pub mod Examples
