@@ -14,7 +14,7 @@ use Rattle.ch_transcript.specs.Progress.{Progress, beginning, Played}
 use Rattle.ch_transcript.specs.Rounds.{rounded}
 use Rattle.ch_transcript.specs.Turns.{hears}
 use Rattle.ch_transcript.specs.declared.commands.Command.{Command}
-use Rattle.ch_transcript.specs.declared.commands.Command.TheVariants.{Open, Say, Join, SignIn, Lose, Tick, Publish, Tail, Api, Http}
+use Rattle.ch_transcript.specs.declared.commands.Command.TheVariants.{Open, Say, Join, SignIn, Lose, Tick, Publish, Tail, Api, Hooks, Http}
 use Rattle.ch_transcript.specs.declared.commands.Line.{Line}
 use Rattle.ch_transcript.specs.declared.commands.Line.TheVariants.{Skipped, Timed, Bad}
 use Rattle.ch_outcomes.proofs.OneSense.{heard_once, judged_once, comes_once}
@@ -36,6 +36,7 @@ obeyed_once config p at (Publish channel event body except) s t h k =
     ap (λ (z : Bool). if z && may_except p except then Some (publishes config p at channel event body except) else None)
     (judged_once body s.is_string t.is_string h k)
 obeyed_once config p at (Tail shard) s t h k = refl
+obeyed_once config p at Hooks s t h k = refl
 obeyed_once config p at (Api method path query body) s t h k =
     ap (λ (z : Exchange). Some (of_exchange p z))
     (comes_once config at (api_bytes config at method path query body) p.shards s.look t.look s.events t.events h k)

@@ -10,7 +10,7 @@ use Rattle.hex.specs.declared.error.FromHexError.{FromHexError}
 use Rattle.ch_history.specs.ChannelName.{is_good_name}
 use Rattle.ch_history.specs.Limits.{is_event_name}
 use Rattle.ch_transcript.specs.declared.commands.Command.{Command}
-use Rattle.ch_transcript.specs.declared.commands.Command.TheVariants.{Join, Publish, Api}
+use Rattle.ch_transcript.specs.declared.commands.Command.TheVariants.{Join, Publish, Api, Hooks}
 use Rattle.ch_transcript.specs.declared.commands.Method.{Method}
 use Rattle.ch_transcript.specs.declared.commands.Line.TheVariants.{Skipped, Bad}
 use Rattle.ch_transcript.specs.Commands.{latest_moment, first_part, more_parts, number_in, open_in, say_in, join_in, sign_in_in, lose_in, tick_in, tail_in, publish_of, publish_on, publish_in, except_in, method_in, is_plain, query_in, or_empty, api_of, api_on, api_in, http_of, command_by, command_in, command_after, timed, is_skipped, line_in, line_of, IsCommand, IsLine}
@@ -127,7 +127,7 @@ command_by-is word rest =
     (chosen Good (bytes_eq word (codes "http")) (http_of (decode_of rest)) None (λ _. http_of-is (decode_of rest)) tt))))))))))
 
 command_in-is : (word : List ℕ) (rest : Option (List ℕ)) → Good (command_in word rest)
-command_in-is word None = tt
+command_in-is word None = chosen Good (bytes_eq word (codes "hooks")) (Some Hooks) None (λ is. tt) tt
 command_in-is word (Some rest) = command_by-is word rest
 
 command_after-is : (rest : Option (List ℕ)) → Good (command_after rest)

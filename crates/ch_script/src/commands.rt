@@ -1,4 +1,4 @@
-ghost use Rattle.std.specs.Prelude.{◌≡◌, IfOk, ℕ, Option};
+ghost use Rattle.std.specs.Prelude.{◌≡◌, IfOk, ℕ, None, Option};
 ghost use Rattle.std.specs.Option.{option_copied};
 ghost use Rattle.ch_history.specs.ChannelName.{is_good_name};
 ghost use Rattle.ch_history.specs.Limits.{is_event_name};
@@ -21,7 +21,17 @@ pub fn read_command(
 {
     match rest {
         Some(rest) => read_by(alloc, word, rest),
-        None => Ok(None),
+        None => Ok(read_word(word)),
+    }
+}
+
+/// The command of a word alone.
+fn read_word(word: &str) -> Option<Command>
+    ensures { result ≡ command_in word.now None }
+{
+    match word {
+        "hooks" => Some(Command::Hooks),
+        _ => None,
     }
 }
 

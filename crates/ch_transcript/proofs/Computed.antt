@@ -34,6 +34,8 @@ lines = record {
   no_bytes = refl;
   odd = refl;
   excepted = refl;
+  hooks = refl;
+  two_words = refl;
 }
 
 pub one_publish : OnePublish

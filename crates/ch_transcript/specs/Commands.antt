@@ -9,7 +9,7 @@ use Rattle.hex.specs.declared.error.FromHexError.{FromHexError}
 use Rattle.ch_history.specs.ChannelName.{is_good_name}
 use Rattle.ch_history.specs.Limits.{is_event_name}
 use Rattle.ch_transcript.specs.declared.commands.Command.{Command}
-use Rattle.ch_transcript.specs.declared.commands.Command.TheVariants.{Open, Say, Join, SignIn, Lose, Tick, Publish, Tail, Api, Http}
+use Rattle.ch_transcript.specs.declared.commands.Command.TheVariants.{Open, Say, Join, SignIn, Lose, Tick, Publish, Tail, Api, Hooks, Http}
 use Rattle.ch_transcript.specs.declared.commands.Method.{Method}
 use Rattle.ch_transcript.specs.declared.commands.Method.TheVariants.{Get, Post}
 use Rattle.ch_transcript.specs.declared.commands.Line.{Line}
@@ -164,9 +164,9 @@ command_by word rest =
     else if bytes_eq word (codes "http") then http_of (decode_of rest)
     else None
 
--- a word and what follows it; no command is a word alone
+-- a word and what follows it; one command is a word alone
 abbrev pub command_in : List ℕ → Option (List ℕ) → Option Command
-command_in word None = None
+command_in word None = if bytes_eq word (codes "hooks") then Some Hooks else None
 command_in word (Some rest) = command_by word rest
 
 -- the command that a text says, if it says one

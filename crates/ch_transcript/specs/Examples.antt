@@ -8,8 +8,8 @@ use Rattle.ch_transcript.specs.Commands.{line_of}
 use Rattle.ch_transcript.specs.Printing.{line_end}
 use Rattle.ch_transcript.specs.Obeying.{Sense}
 use Rattle.ch_transcript.specs.Outcomes.{played_as}
-use Rattle.ch_transcript.specs.Progress.{Progress, Played, Socket}
-use Rattle.ch_transcript.specs.declared.commands.Command.TheVariants.{Open, Say, Join, Publish, Lose, Api, Http}
+use Rattle.ch_transcript.specs.Progress.{Progress, Played, Socket, no_webhooks}
+use Rattle.ch_transcript.specs.declared.commands.Command.TheVariants.{Open, Say, Join, Publish, Lose, Api, Hooks, Http}
 use Rattle.ch_transcript.specs.declared.commands.Method.TheVariants.{Get, Post}
 use Rattle.ch_transcript.specs.declared.commands.Line.{Line}
 use Rattle.ch_transcript.specs.declared.commands.Line.TheVariants.{Skipped, Timed, Bad}
@@ -32,6 +32,8 @@ pub record Lines : Type 0 where
   pub no_query : line_of (codes "1 api GET /p") ≡ Bad
   pub other_method : line_of (codes "1 api PUT /p -") ≡ Bad
   pub question : line_of (codes "1 api GET /p? -") ≡ Bad
+  pub hooks : line_of (codes "5 hooks") ≡ Timed 5 Hooks
+  pub two_words : line_of (codes "5 hooks ") ≡ Bad
   pub bytes : line_of (codes "1 http 0aFf") ≡ Timed 1 (Http (10 ∷ 255 ∷ []))
   pub no_bytes : line_of (codes "1 http ") ≡ Timed 1 (Http [])
   pub odd : line_of (codes "1 http 0") ≡ Bad
@@ -43,7 +45,7 @@ abbrev pub open_socket : Socket
 open_socket = record { is_open = true; quiet = quiet_from 0; asks = [] }
 
 abbrev pub two_open : Progress
-two_open = record { at = 1; sockets = open_socket ∷ open_socket ∷ []; shards = record { chans = λ k. []; users = λ k. [] } }
+two_open = record { at = 1; sockets = open_socket ∷ open_socket ∷ []; shards = record { chans = λ k. []; users = λ k. [] }; webhooks = no_webhooks }
 
 -- a subscribe to the channel `a`, and a body that is a JSON string
 abbrev pub subscribes : Sense

@@ -35,7 +35,7 @@ exchanges config at (Ready q) ts shards = answers shards (planned config start_s
 exchanges config at (Refuse status) ts shards = record { text = reply_line (refusal status); shards = shards }
 
 abbrev pub of_exchange : Progress → Exchange → Played
-of_exchange p x = record { text = x.text; next = record { at = p.at; sockets = p.sockets; shards = x.shards } }
+of_exchange p x = record { text = x.text; next = record { at = p.at; sockets = p.sockets; shards = x.shards; webhooks = p.webhooks } }
 
 -- the body of an authorized request is read so
 abbrev pub ReadsRequest : Config → ℕ → Look → Option (List Trigger) → Type 0

@@ -6,6 +6,7 @@ pub mod Requests
 pub mod Progress
 pub mod Turns
 pub mod Exchanges
+pub mod Gathering
 pub mod Obeying
 pub mod Rounds
 pub mod Outcomes

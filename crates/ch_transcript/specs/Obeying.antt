@@ -14,19 +14,20 @@ use Rattle.ch_requests.specs.Replies.{refusal}
 use Rattle.ch_requests.specs.declared.request.Look.{Look}
 use Rattle.ch_requests.specs.declared.trigger.Trigger.{Trigger}
 use Rattle.ch_transcript.specs.declared.commands.Command.{Command}
-use Rattle.ch_transcript.specs.declared.commands.Command.TheVariants.{Open, Say, Join, SignIn as SignInCommand, Lose, Tick, Publish, Tail, Api, Http}
+use Rattle.ch_transcript.specs.declared.commands.Command.TheVariants.{Open, Say, Join, SignIn as SignInCommand, Lose, Tick, Publish, Tail, Api, Hooks, Http}
 use Rattle.ch_transcript.specs.Joining.{join_text, sign_in_text}
 use Rattle.ch_transcript.specs.Requests.{api_bytes}
 use Rattle.ch_transcript.specs.Printing.{frame_line, end_lines, sent_line, tail_line}
 use Rattle.ch_transcript.specs.Progress.{Socket, Progress, Played, quietly, has_socket, socket_of, is_live, with_socket}
 use Rattle.ch_transcript.specs.Turns.{Turn, ends_turn, hears, ticks}
 use Rattle.ch_transcript.specs.Exchanges.{exchanges, of_exchange, Comes}
+use Rattle.ch_transcript.specs.Gathering.{gathers}
 
 -- the socket's turn is taken
 abbrev pub takes_turn : Progress → ℕ → Turn → Played
 takes_turn p number t = record {
   text = t.text;
-  next = record { at = p.at; sockets = with_socket p.sockets number t.socket; shards = t.shards };
+  next = record { at = p.at; sockets = with_socket p.sockets number t.socket; shards = t.shards; webhooks = p.webhooks };
 }
 
 -- a command of a socket, which has to be there; one whose connection ended does nothing more
@@ -59,6 +60,7 @@ opens p at refusal =
         at = p.at;
         sockets = p.sockets ++ record { is_open = is_accepted refusal; quiet = quiet_from at; asks = [] } ∷ [];
         shards = p.shards;
+        webhooks = p.webhooks;
       };
     })
     else None
@@ -70,7 +72,7 @@ publishes config p at channel event body except =
     let call = PublishCall channel event body except at in
     record {
       text = sent_line (answer_of (p.shards.chans k) 0 call);
-      next = record { at = p.at; sockets = p.sockets; shards = calls p.shards k call };
+      next = record { at = p.at; sockets = p.sockets; shards = calls p.shards k call; webhooks = p.webhooks };
     }
 
 -- an excepted socket has to be there, though it may have ended
@@ -119,4 +121,5 @@ obeyed config p at (Publish channel event body except) s =
     if s.is_string && may_except p except then Some (publishes config p at channel event body except) else None
 obeyed config p at (Tail k) s = tails config p k
 obeyed config p at (Api method path query body) s = Some (of_exchange p (exchanges config at s.look s.events p.shards))
+obeyed config p at Hooks s = Some (gathers config p at)
 obeyed config p at (Http bytes) s = Some (of_exchange p (exchanges config at s.look s.events p.shards))

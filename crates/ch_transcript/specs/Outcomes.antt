@@ -12,7 +12,7 @@ use Rattle.ch_transcript.specs.Rounds.{rounded}
 
 -- the line's moment is the last one from now on
 abbrev pub at_moment : ℕ → Progress → Progress
-at_moment at p = record { at = at; sockets = p.sockets; shards = p.shards }
+at_moment at p = record { at = at; sockets = p.sockets; shards = p.shards; webhooks = p.webhooks }
 
 -- what a line writes by what it says; no line goes back in time
 abbrev pub played_as : Config → Progress → Line → Sense → Option Played

@@ -1,8 +1,9 @@
--- How far a transcript has come: its sockets and its shards.
+-- How far a transcript has come: its sockets, its shards and its webhooks.
 use Rattle.std.specs.Prelude.{ℕ, ◌-◌, ◌&&◌, Bool, false, nat_le, List, [], length, slice_index_or, slice_set}
 use Rattle.ch_rate.specs.Quiet.{Quiet, quiet_from}
 use Rattle.ch_protocol.specs.Settling.{SettledAsk}
 use Rattle.ch_protocol.specs.Shards.{Shards, no_calls}
+use Rattle.ch_base.specs.declared.webhook.Hook.{Hook}
 
 -- a socket: whether its connection is open, how long it was silent, and its settled asks
 pub record Socket : Type 0 where
@@ -10,14 +11,23 @@ pub record Socket : Type 0 where
   pub quiet : Quiet
   pub asks : List SettledAsk
 
--- the moment of the last line, the sockets in order, of which the first has number 1, and the shards
+-- the webhook events that were taken and aren't cut yet, and the number of the next batch; each batch that was made is sent
+pub record Webhooks : Type 0 where
+  pub uncut : List Hook
+  pub next : ℕ
+
+abbrev pub no_webhooks : Webhooks
+no_webhooks = record { uncut = []; next = 1 }
+
+-- the moment of the last line, the sockets in order, of which the first has number 1, the shards, and the webhooks
 pub record Progress : Type 0 where
   pub at : ℕ
   pub sockets : List Socket
   pub shards : Shards
+  pub webhooks : Webhooks
 
 abbrev pub beginning : Progress
-beginning = record { at = 0; sockets = []; shards = no_calls }
+beginning = record { at = 0; sockets = []; shards = no_calls; webhooks = no_webhooks }
 
 -- what a line writes, and how far the transcript has come then
 pub record Played : Type 0 where

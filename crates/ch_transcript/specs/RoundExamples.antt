@@ -12,7 +12,7 @@ use Rattle.ch_protocol.specs.declared.ask.Made.TheVariants as made
 use Rattle.ch_transcript.specs.Printing.{line_end}
 use Rattle.ch_protocol.specs.Shards.{Shards, after_ask, after_asks}
 use Rattle.ch_transcript.specs.Obeying.{opens, tails}
-use Rattle.ch_transcript.specs.Progress.{Progress, Played, Socket}
+use Rattle.ch_transcript.specs.Progress.{Progress, Played, Socket, no_webhooks}
 use Rattle.ch_transcript.specs.Rounds.{Rounds, taken, rounds}
 use Rattle.ch_transcript.specs.Turns.{Turn, ticks}
 
@@ -83,7 +83,7 @@ pub record Ticks : Type 0 where
 -- ---- connections, and tails
 
 abbrev pub nothing_yet : Progress
-nothing_yet = record { at = 0; sockets = []; shards = no_shards }
+nothing_yet = record { at = 0; sockets = []; shards = no_shards; webhooks = no_webhooks }
 
 abbrev pub text_of : Option Played → List ℕ
 text_of None = codes "refused"
@@ -96,7 +96,7 @@ open_after (Some x) = map (λ s. s.is_open) x.next.sockets
 
 -- a channel shard on which one took its frames, before and after a Join
 abbrev pub one_join : Progress
-one_join = record { at = 0; sockets = []; shards = taken (after_ask (taken no_shards) (on_chan (codes "w") 1).ask) }
+one_join = record { at = 0; sockets = []; shards = taken (after_ask (taken no_shards) (on_chan (codes "w") 1).ask); webhooks = no_webhooks }
 
 pub record Others : Type 0 where
   pub opened : text_of (opens nothing_yet 0 None)

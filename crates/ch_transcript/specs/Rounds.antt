@@ -91,7 +91,7 @@ rounds (suc n) config at sockets shards =
 abbrev pub with_rounds : Config → Played → Played
 with_rounds config x =
     let r = rounds (length x.next.sockets + 1) config x.next.at x.next.sockets x.next.shards in
-    record { text = x.text ++ r.text; next = record { at = x.next.at; sockets = r.sockets; shards = r.shards } }
+    record { text = x.text ++ r.text; next = record { at = x.next.at; sockets = r.sockets; shards = r.shards; webhooks = x.next.webhooks } }
 
 abbrev pub rounded : Config → Option Played → Option Played
 rounded config None = None

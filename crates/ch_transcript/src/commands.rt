@@ -58,6 +58,8 @@ pub enum Command {
         query: Text,
         body: Text,
     },
+    /// The webhook events that wait on the channel shards are taken and cut into batches, which are sent.
+    Hooks,
     /// These bytes come as a request.
     Http {
         bytes: Bytes,
