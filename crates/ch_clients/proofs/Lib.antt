@@ -1,0 +1,13 @@
+pub mod Crossing
+pub mod Edits
+pub mod Fates
+pub mod InTurns
+pub mod Losing
+pub mod Parts
+pub mod Passing
+pub mod Placing
+pub mod Rows
+pub mod Serving
+pub mod Sound
+pub mod Stepping
+pub mod Visiting

@@ -1,0 +1,7 @@
+use Rattle.ch_base.specs.declared.channel.ChanCall.TheVariants as chan_call
+use Rattle.ch_protocol.specs.declared.ask.Ask.TheVariants.{Chan}
+use Rattle.ch_worker.proofs.Takings.{Taking}
+use Rattle.ch_worker.proofs.taking.take_chans.Given as goal
+
+abbrev pub invariant-loop-shard : goal.invariant-loop-shard
+invariant-loop-shard g l = Taking (λ k. Chan k chan_call.Take) l.shard l.initial.clients l.clients (g.D.Desk.view l.initial.desk) (g.D.Desk.view l.desk) l.part
