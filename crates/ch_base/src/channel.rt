@@ -71,7 +71,7 @@ pub enum ChanCall {
     Names {
         prefix: Text,
     },
-    /// How many subscriptions and users the channel has.
+    /// How many subscriptions and users the channel has, and its latest event.
     Look {
         channel: Text,
         at: u64,
@@ -94,14 +94,25 @@ pub enum ChanAnswer {
     /// The socket isn't subscribed to the channel.
     NotOn,
     /// So many subscriptions ended.
-    Gone { count: u64 },
+    Gone {
+        count: u64,
+    },
     /// The channel has so many subscriptions, and on a presence channel so many users.
-    Sent { subs: u64, users: u64 },
+    Sent {
+        subs: u64,
+        users: u64,
+    },
     Said,
     Frames(FrameList),
     Hooks(HookList),
     Rows(NameRows),
-    Looked { subs: u64, users: u64 },
+    /// The channel has so many subscriptions, and on a presence channel so many users; on a cache
+    /// channel its latest event, while that is kept.
+    Looked {
+        subs: u64,
+        users: u64,
+        cache: Option<CacheRow>,
+    },
     Ids(TextList),
 }
 
@@ -111,4 +122,12 @@ pub struct NameRow {
     pub channel: Text,
     pub subs: u64,
     pub users: u64,
+}
+
+/// The latest event of a cache channel: its body, a JSON string, and for how many more seconds it is
+/// kept, rounded up.
+#[derive(Debug, PartialEq, Eq, Drop)]
+pub struct CacheRow {
+    pub body: Text,
+    pub ttl: u64,
 }

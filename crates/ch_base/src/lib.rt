@@ -16,7 +16,7 @@ mod text;
 mod user;
 mod webhook;
 
-pub use channel::{ChanAnswer, ChanCall, Member, NameRow};
+pub use channel::{CacheRow, ChanAnswer, ChanCall, Member, NameRow};
 pub use entry::Entry;
 pub use frame::{Frame, FrameFor};
 pub use items::{Bytes, FrameList, HookList, Items, MemberList, NameRows, TextList};

@@ -63,12 +63,12 @@ greets h e (Join socket c m at) is = λ joined.
     let kind = both (is_joined e.answer) (is_cache c) joined in
     let s : Subscription = record { channel = c; socket = socket; owner = e.caller; member = m } in
     let k : ChanHistory = h ++ e ∷ [] in
-    let made : frames h e ≡ welcome c (subs k c) (latest h c) s ++ arrival c (subs h c) m =
-    ap (frames_by (subscriptions h) (subscriptions k) (latest h) e.caller e.answer) is
-    ∙ ap (λ b. cond b (welcome c (subs k c) (latest h c) s ++ arrival c (subs h c) m) []) kind.0 in
+    let made : frames h e ≡ welcome c (subs k c) (latest h e.call c) s ++ arrival c (subs h c) m =
+    ap (frames_by (subscriptions h) (subscriptions k) (latest h e.call) e.caller e.answer) is
+    ∙ ap (λ b. cond b (welcome c (subs k c) (latest h e.call c) s ++ arrival c (subs h c) m) []) kind.0 in
     ap (λ ds. length (told socket ds)) made
-    ∙ ap length (filter-append (λ d. (d.item.socket == socket) && tells_latest d.item.frame) (welcome c (subs k c) (latest h c) s) (arrival c (subs h c) m)
-    ∙ ap₂ ◌++◌ (told-welcome c (subs k c) (latest h c) s kind.1) (told-arrivals c socket (subs h c) m))
+    ∙ ap length (filter-append (λ d. (d.item.socket == socket) && tells_latest d.item.frame) (welcome c (subs k c) (latest h e.call c) s) (arrival c (subs h c) m)
+    ∙ ap₂ ◌++◌ (told-welcome c (subs k c) (latest h e.call c) s kind.1) (told-arrivals c socket (subs h c) m))
 greets h e (Leave socket c at) is = tt
 greets h e (Lost socket at) is = tt
 greets h e (Publish c event body except at) is = tt

@@ -83,7 +83,7 @@ joined h w socket d m at c off =
     let n : Subscription = record { channel = d; socket = socket; owner = w; member = m } in
     let arrives : List Hook = occupied d (subs h d) ++ added d (subs h d) m in
     let made : about c (hooks h e) ≡ about c arrives =
-    filter-append (concerns c) arrives (missed d (latest h d)) ∙ ap (λ gs. about c arrives ++ gs) (about-missed c d (latest h d)) ∙ append-nil (about c arrives) in
+    filter-append (concerns c) arrives (missed d (latest h e.call d)) ∙ ap (λ gs. about c arrives ++ gs) (about-missed c d (latest h e.call d)) ∙ append-nil (about c arrives) in
     let after : subs (h ++ e ∷ []) c ≡ subs h c ++ cond (bytes_eq d c) (n ∷ []) [] =
     subs-push h e c ∙ ap (λ xs. xs ++ cond (bytes_eq d c) (n ∷ []) []) (filter-none (λ s. settles s e) (subs h c) (not_on h socket d c off)) in
     (elim (bytes_eq d c) as (λ b. bytes_eq d c ≡ b → subs (h ++ e ∷ []) c ≡ subs h c ++ cond b (n ∷ []) [] → Change h e c) [

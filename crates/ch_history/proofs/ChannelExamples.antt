@@ -1,7 +1,7 @@
 -- The worked histories of a channel shard hold, each by computing.
 use Rattle.std.proofs.Common.{[], ◌∷◌, codes, refl, arith}
 use Rattle.ch_base.specs.JsonText.{byte, IsJsonString}
-use Rattle.ch_history.specs.ChannelExamples.{ExceptedSocket, JoinedAgain, TwoSockets, AnotherUser, CacheNewcomers, ThreeChannelsLost, FullRoom}
+use Rattle.ch_history.specs.ChannelExamples.{ExceptedSocket, JoinedAgain, TwoSockets, AnotherUser, CacheNewcomers, HalfAnHour, SlowCaller, ThreeChannelsLost, FullRoom}
 
 is_string : IsJsonString (codes "\"x\"")
 is_string = (byte 120 ∷ [], (120 ∷ 34 ∷ [], refl, (refl, (34 ∷ [], refl, refl))))
@@ -30,6 +30,16 @@ another_user = record { answered = (refl, (refl, (refl, (refl, (refl, (refl, (re
 
 pub cache_newcomers : CacheNewcomers
 cache_newcomers = record { answered = (refl, (refl, (refl, (refl, tt)))); frames = refl; events = refl }
+
+pub half_an_hour : HalfAnHour
+half_an_hour = record {
+  answered = (refl, (refl, (refl, (refl, (refl, (refl, (refl, (refl, (refl, tt)))))))));
+  frames = refl;
+  events = refl;
+}
+
+pub slow_caller : SlowCaller
+slow_caller = record { answered = (refl, (refl, (refl, (refl, (refl, (refl, (refl, tt))))))); ahead = refl; behind = refl }
 
 pub three_channels_lost : ThreeChannelsLost
 three_channels_lost = record { answered = (refl, (refl, (refl, (refl, (refl, tt))))); events = refl }

@@ -22,7 +22,7 @@ IsAnswerTo (Say socket c event body at) NotOn = Unit {0}
 IsAnswerTo Take (Frames frames) = Unit {0}
 IsAnswerTo (TakeHooks at) (Hooks hooks) = Unit {0}
 IsAnswerTo (Names prefix) (Rows rows) = Unit {0}
-IsAnswerTo (Look c at) (Looked subs users) = Unit {0}
+IsAnswerTo (Look c at) (Looked subs users cache) = Unit {0}
 IsAnswerTo (Users c) (Ids ids) = Unit {0}
 IsAnswerTo _ _ = ⊥
 

@@ -2,6 +2,7 @@
 use Rattle.std.specs.Prelude.{ℕ, Bool, false, not, ◌&&◌, List, Option, Some, None, filter, map, length, nat_le, if◌then◌else◌}
 use Rattle.ch_base.specs.declared.channel.Member.{Member}
 use Rattle.ch_base.specs.declared.channel.NameRow.{NameRow}
+use Rattle.ch_base.specs.declared.channel.CacheRow.{CacheRow}
 use Rattle.ch_base.specs.declared.channel.ChanCall.{ChanCall}
 use Rattle.ch_base.specs.declared.channel.ChanCall.TheVariants.{Join, Leave, Lost, Publish, Say, Take, TakeHooks, Names, Look, Users}
 use Rattle.ch_base.specs.declared.channel.ChanAnswer.{ChanAnswer}
@@ -15,6 +16,7 @@ use Rattle.ch_history.specs.ChannelName.{is_presence, begins}
 use Rattle.ch_history.specs.Limits.{max_users}
 use Rattle.ch_history.specs.Subscriptions.{subscriptions, on_channel, is_on, channels_in}
 use Rattle.ch_history.specs.Presence.{users_in, has_user}
+use Rattle.ch_history.specs.Cache.{latest_row}
 use Rattle.ch_history.specs.Frames.{waiting}
 use Rattle.ch_history.specs.Webhooks.{pending}
 
@@ -31,20 +33,21 @@ row_in xs c = record { channel = c; subs = length (on_channel xs c); users = len
 abbrev pub names_in : List Subscription → List ℕ → List (List ℕ)
 names_in xs prefix = filter (begins prefix) (ascending (map (λ s. s.channel) xs))
 
--- what a call is answered; xs: the open subscriptions, mine: the frames that wait for its caller, log: the pending webhook events
-abbrev pub answer_by : List Subscription → List FrameFor → List Hook → ChanCall → ChanAnswer
-answer_by xs mine log (Join socket c member at) =
+-- what a call is answered; xs: the open subscriptions, kept: each channel's latest event, mine: the frames that wait for its
+-- caller, log: the pending webhook events
+abbrev pub answer_by : List Subscription → (List ℕ → Option CacheRow) → List FrameFor → List Hook → ChanCall → ChanAnswer
+answer_by xs kept mine log (Join socket c member at) =
     if is_on xs socket c then Already else if is_crowded c (on_channel xs c) member then Crowded else Joined
-answer_by xs mine log (Leave socket c at) = if is_on xs socket c then Left else NotOn
-answer_by xs mine log (Lost socket at) = Gone (length (channels_in xs socket))
-answer_by xs mine log (Publish c event body except at) = Sent (length (on_channel xs c)) (length (users_in c (on_channel xs c)))
-answer_by xs mine log (Say socket c event body at) = if is_on xs socket c then Said else NotOn
-answer_by xs mine log Take = Frames mine
-answer_by xs mine log (TakeHooks at) = Hooks log
-answer_by xs mine log (Names prefix) = Rows (map (row_in xs) (names_in xs prefix))
-answer_by xs mine log (Look c at) = Looked (length (on_channel xs c)) (length (users_in c (on_channel xs c)))
-answer_by xs mine log (Users c) = Ids (users_in c (on_channel xs c))
+answer_by xs kept mine log (Leave socket c at) = if is_on xs socket c then Left else NotOn
+answer_by xs kept mine log (Lost socket at) = Gone (length (channels_in xs socket))
+answer_by xs kept mine log (Publish c event body except at) = Sent (length (on_channel xs c)) (length (users_in c (on_channel xs c)))
+answer_by xs kept mine log (Say socket c event body at) = if is_on xs socket c then Said else NotOn
+answer_by xs kept mine log Take = Frames mine
+answer_by xs kept mine log (TakeHooks at) = Hooks log
+answer_by xs kept mine log (Names prefix) = Rows (map (row_in xs) (names_in xs prefix))
+answer_by xs kept mine log (Look c at) = Looked (length (on_channel xs c)) (length (users_in c (on_channel xs c))) (kept c)
+answer_by xs kept mine log (Users c) = Ids (users_in c (on_channel xs c))
 
 -- what the call of the caller w is answered after the history h
 abbrev pub answer_of : ChanHistory → ℕ → ChanCall → ChanAnswer
-answer_of h w call = answer_by (subscriptions h) (waiting h w) (pending h) call
+answer_of h w call = answer_by (subscriptions h) (latest_row h call) (waiting h w) (pending h) call

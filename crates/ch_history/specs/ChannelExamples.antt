@@ -2,7 +2,8 @@
 use Rattle.std.specs.Prelude.{◌≡◌, ℕ, zero, suc, ◌+◌, ◌/◌, ◌%◌, true, false, List, [], ◌∷◌, ◌++◌, Some, None, codes}
 use Rattle.ch_base.specs.Growth.{entry}
 use Rattle.ch_base.specs.declared.channel.Member.{Member}
-use Rattle.ch_base.specs.declared.channel.ChanCall.TheVariants.{Join, Leave, Lost, Publish, Say, Take, TakeHooks, Users}
+use Rattle.ch_base.specs.declared.channel.ChanCall.TheVariants.{Join, Leave, Lost, Publish, Say, Take, TakeHooks, Look, Users}
+use Rattle.ch_base.specs.declared.channel.ChanAnswer.{ChanAnswer}
 use Rattle.ch_base.specs.declared.channel.ChanAnswer.TheVariants as answer
 use Rattle.ch_base.specs.declared.frame.Frame.{Frame}
 use Rattle.ch_base.specs.declared.frame.Frame.TheVariants as frame
@@ -142,6 +143,60 @@ pub record CacheNewcomers : Type 0 where
       ∷ gets 2 (frame.Event kept (codes "e") (codes "\"1\"") None)
       ∷ []
   pub events : hook_list cache_newcomers ≡ hook.Occupied kept ∷ hook.Miss kept ∷ hook.Vacated kept ∷ hook.Occupied kept ∷ []
+
+-- A cached event ends 1,800,000 ms after it was published. A Look tells of how many seconds are left, rounded up.
+
+abbrev pub event : Frame
+event = frame.Event kept (codes "e") (codes "\"1\"") None
+
+-- a Look at the cache channel, with one or more subscriptions, that is told of the event and its seconds
+abbrev pub seen : ℕ → ℕ → ChanAnswer
+seen subs ttl = answer.Looked subs 0 (Some (record { body = codes "\"1\""; ttl = ttl }))
+
+abbrev pub half_an_hour : ChanHistory
+half_an_hour =
+    entry 0 (Join 1 kept None 0) answer.Joined
+    ∷ entry 0 (Publish kept (codes "e") (codes "\"1\"") None 1) (answer.Sent 1 0)
+    ∷ entry 0 (Look kept 1) (seen 1 1800)
+    ∷ entry 0 (Look kept 1000) (seen 1 1800)
+    ∷ entry 0 (Look kept 1001) (seen 1 1799)
+    ∷ entry 0 (Join 2 kept None 1800000) answer.Joined
+    ∷ entry 0 (Look kept 1800000) (seen 2 1)
+    ∷ entry 0 (Join 3 kept None 1800001) answer.Joined
+    ∷ entry 0 (Look kept 1800001) (answer.Looked 3 0 None)
+    ∷ []
+
+pub record HalfAnHour : Type 0 where
+  pub answered : AllAnswered half_an_hour
+  pub frames : waiting half_an_hour 0 ≡
+      gets 1 (frame.Succeeded kept)
+      ∷ gets 1 (frame.Miss kept)
+      ∷ gets 1 event
+      ∷ gets 2 (frame.Succeeded kept)
+      ∷ gets 2 event
+      ∷ gets 3 (frame.Succeeded kept)
+      ∷ gets 3 (frame.Miss kept)
+      ∷ []
+  pub events : hook_list half_an_hour ≡ hook.Occupied kept ∷ hook.Miss kept ∷ hook.Miss kept ∷ []
+
+-- An event that has ended doesn't come back for a caller whose moment is behind, and an event that such a caller publishes
+-- ends by the shard's clock.
+
+abbrev pub slow_caller : ChanHistory
+slow_caller =
+    entry 0 (Publish kept (codes "e") (codes "\"1\"") None 1000) (answer.Sent 0 0)
+    ∷ entry 1 (Join 1 kept None 1801000) answer.Joined
+    ∷ entry 0 (Join 2 kept None 500) answer.Joined
+    ∷ entry 0 (Look kept 500) (answer.Looked 2 0 None)
+    ∷ entry 0 (Publish kept (codes "e") (codes "\"1\"") (Some 1) 600) (answer.Sent 2 0)
+    ∷ entry 1 (Look kept 3600999) (seen 2 1)
+    ∷ entry 1 (Look kept 3601000) (answer.Looked 2 0 None)
+    ∷ []
+
+pub record SlowCaller : Type 0 where
+  pub answered : AllAnswered slow_caller
+  pub ahead : waiting slow_caller 1 ≡ gets 1 (frame.Succeeded kept) ∷ gets 1 (frame.Miss kept) ∷ []
+  pub behind : waiting slow_caller 0 ≡ gets 2 (frame.Succeeded kept) ∷ gets 2 (frame.Miss kept) ∷ gets 2 event ∷ []
 
 -- A loss over three channels: they are vacated in ascending order.
 

@@ -72,7 +72,7 @@ abbrev pub is_said : ChanAnswer → Bool
 is_said Said = true
 is_said _ = false
 
--- the frames of a call; before and after: the open subscriptions; kept: each channel's latest event
+-- the frames of a call; before and after: the open subscriptions; kept: each channel's latest event at this call
 abbrev pub frames_by : List Subscription → List Subscription → (List ℕ → Option Cached) → ℕ → ChanAnswer → ChanCall → List Delivery
 frames_by before after kept caller answer (Join socket c member at) =
     if is_joined answer
@@ -93,7 +93,7 @@ frames_by before after kept caller answer _ = []
 
 -- the frames that the entry e makes after the history h
 abbrev pub frames : ChanHistory → ChanEntry → List Delivery
-frames h e = frames_by (subscriptions h) (subscriptions (h ++ e ∷ [])) (latest h) e.caller e.answer e.call
+frames h e = frames_by (subscriptions h) (subscriptions (h ++ e ∷ [])) (latest h e.call) e.caller e.answer e.call
 
 -- whether the call of the caller is a Take of w
 abbrev pub is_take_by : ℕ → ℕ → ChanCall → Bool

@@ -1,6 +1,7 @@
 pub mod Steps
 pub mod OpenRows
 pub mod Entries
+pub mod Clock
 pub mod Texts
 pub mod ChannelName
 pub mod Limits

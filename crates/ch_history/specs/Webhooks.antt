@@ -60,7 +60,7 @@ hooks_by before after kept answer _ = []
 
 -- the webhook events that the entry e makes after the history h
 abbrev pub hooks : ChanHistory → ChanEntry → List Hook
-hooks h e = hooks_by (subscriptions h) (subscriptions (h ++ e ∷ [])) (latest h) e.answer e.call
+hooks h e = hooks_by (subscriptions h) (subscriptions (h ++ e ∷ [])) (latest h e.call) e.answer e.call
 
 -- whether the call takes the pending webhook events
 abbrev pub is_take_hooks : ChanCall → Bool

@@ -1,5 +1,5 @@
 ghost use Rattle.ch_history.specs.NameExamples.{KindExamples, NameExamples, PlaceExamples};
-ghost use Rattle.ch_history.specs.ChannelExamples.{ExceptedSocket, JoinedAgain, TwoSockets, AnotherUser, CacheNewcomers, ThreeChannelsLost, FullRoom};
+ghost use Rattle.ch_history.specs.ChannelExamples.{ExceptedSocket, JoinedAgain, TwoSockets, AnotherUser, CacheNewcomers, HalfAnHour, SlowCaller, ThreeChannelsLost, FullRoom};
 ghost use Rattle.ch_history.specs.UserExamples.{TwoSignedIn, WatchedLate, WatchesItself};
 
 /// Names of each kind, good names and bad ones, and the shards of names by the test values of the
@@ -18,6 +18,8 @@ pub fn channel_examples_hold()
     ensures two_sockets { TwoSockets }
     ensures another_user { AnotherUser }
     ensures cache_newcomers { CacheNewcomers }
+    ensures half_an_hour { HalfAnHour }
+    ensures slow_caller { SlowCaller }
     ensures three_channels_lost { ThreeChannelsLost }
     ensures full_room { FullRoom }
 {}

@@ -8,10 +8,12 @@
 
 mod examples;
 mod laws;
+mod limits;
 mod rows;
 
 pub use examples::{channel_examples_hold, name_examples_hold, user_examples_hold};
 pub use laws::{
     cache_newcomers_are_told, membership_alternates, occupancy_alternates, watchers_are_told,
 };
+pub use limits::CACHED_FOR;
 pub use rows::{Cached, Delivery, Subscription, UserSocket};

@@ -10,11 +10,13 @@ pub struct Subscription {
     pub member: Option<Member>,
 }
 
-/// The latest event of a cache channel; `body` is a JSON string.
+/// The latest event of a cache channel; `body` is a JSON string. It is kept until the shard's clock
+/// stands at `ends`, a moment in milliseconds.
 #[derive(Debug, PartialEq, Eq, Drop)]
 pub struct Cached {
     pub event: Text,
     pub body: Text,
+    pub ends: u64,
 }
 
 /// A socket that is signed in as a user or watches one. The owner is the caller that made it so.

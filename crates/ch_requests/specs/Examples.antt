@@ -1,5 +1,6 @@
 -- Paths, heads and replies, as a check of the definitions' text.
 use Rattle.std.specs.Prelude.{◌≡◌, ℕ, true, false, List, [], ◌∷◌, codes, Option, Some, None, Result, Ok, Err}
+use Rattle.ch_base.specs.declared.channel.CacheRow.{CacheRow}
 use Rattle.ch_base.specs.declared.channel.ChanAnswer.TheVariants.{Sent, Rows, Looked, Ids}
 use Rattle.ch_protocol.specs.declared.ask.Made.TheVariants.{Chan}
 use Rattle.ch_requests.specs.Fields.{lists, body_length, missing, bad, is}
@@ -46,6 +47,10 @@ pub record Looks : Type 0 where
   pub twice : has_double (param (codes "a") (codes "1") ∷ param (codes "b") (codes "2") ∷ param (codes "a") [] ∷ []) ≡ true
   pub once : has_double (param (codes "a") (codes "1") ∷ param (codes "b") (codes "1") ∷ []) ≡ false
 
+-- the latest event `1`, kept for so many seconds
+abbrev pub latest : ℕ → Option CacheRow
+latest ttl = Some (record { body = codes "\"1\""; ttl = ttl })
+
 pub record Bodies : Type 0 where
   pub nothing : body_of Empty [] ≡ codes "{}"
   pub counts : body_of (Triggered (record { channel = codes "a"; wanted = record { users = false; subs = true } }
@@ -55,8 +60,12 @@ pub record Bodies : Type 0 where
       (Chan (Rows (record { channel = codes "presence-b"; subs = 3; users = 2 } ∷ []))
       ∷ Chan (Rows (record { channel = codes "presence-a"; subs = 1; users = 1 } ∷ [])) ∷ [])
       ≡ codes "{\"channels\":{\"presence-a\":{\"user_count\":1},\"presence-b\":{\"user_count\":2}}}"
-  pub one_channel : body_of (ChannelForm (record { users = false; subs = true })) (Chan (Looked 2 0) ∷ [])
+  pub one_channel : body_of (ChannelForm (record { users = false; subs = true }) false) (Chan (Looked 2 0 (latest 9)) ∷ [])
       ≡ codes "{\"occupied\":true,\"subscription_count\":2}"
+  pub cached : body_of (ChannelForm (record { users = false; subs = false }) true) (Chan (Looked 1 0 (latest 1)) ∷ [])
+      ≡ codes "{\"occupied\":true,\"cache\":{\"data\":\"1\",\"ttl\":1}}"
+  pub not_cached : body_of (ChannelForm (record { users = false; subs = true }) true) (Chan (Looked 0 0 None) ∷ [])
+      ≡ codes "{\"occupied\":false,\"subscription_count\":0,\"cache\":null}"
   pub users : body_of Users (Chan (Ids (codes "u" ∷ codes "v" ∷ [])) ∷ []) ≡ codes "{\"users\":[{\"id\":\"u\"},{\"id\":\"v\"}]}"
   pub refused : reply_text (refusal 401)
       ≡ codes "HTTP/1.1 401 Unauthorized\r\nContent-Type: application/json\r\nContent-Length: 24\r\nConnection: close\r\n\r\n{\"error\":\"unauthorized\"}"

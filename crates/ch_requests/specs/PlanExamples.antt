@@ -72,7 +72,11 @@ pub record QueryPlans : Type 0 where
   pub users_of_presence : does Channels (member (codes "filter_by_prefix") (codes "presence-") ∷ info (codes "user_count")) None
       ≡ asks_for (Chan 0 (Names (codes "presence-")) ∷ Chan 1 (Names (codes "presence-")) ∷ []) (ChannelsForm (record { users = true; subs = false }))
   pub channel : does (Channel (codes "a")) (info (codes "subscription_count")) None
-      ≡ asks_for (Chan 0 (Look (codes "a") 7) ∷ []) (ChannelForm (record { users = false; subs = true }))
+      ≡ asks_for (Chan 0 (Look (codes "a") 7) ∷ []) (ChannelForm (record { users = false; subs = true }) false)
+  pub cached : does (Channel (codes "cache-c")) (info (codes "cache")) None
+      ≡ asks_for (Chan 1 (Look (codes "cache-c") 7) ∷ []) (ChannelForm (record { users = false; subs = false }) true)
+  pub never_cached : does (Channel (codes "a")) (info (codes "subscription_count,cache")) None ≡ refused 400
+  pub unknown_of_all : does Channels (info (codes "cache")) None ≡ does Channels [] None
   pub bad_channel : does (Channel (codes "a b")) [] None ≡ refused 400
   pub users_of_one : does (Channel (codes "a")) (info (codes "user_count")) None ≡ refused 400
   pub nobody_is_there : does (ChannelUsers (codes "a")) [] None ≡ refused 400

@@ -4,7 +4,7 @@ use Rattle.std.specs.List.{flat_map, list_any, slice_split, range_with_len}
 use Rattle.ch_base.specs.declared.channel.ChanCall.TheVariants.{Publish, Names, Look, Users as UsersCall}
 use Rattle.ch_base.specs.declared.user.UserCall.TheVariants.{SendTo, Terminate as TerminateCall}
 use Rattle.ch_config.specs.declared.config.Config.{Config}
-use Rattle.ch_history.specs.ChannelName.{begins, is_good_name, is_presence}
+use Rattle.ch_history.specs.ChannelName.{begins, is_good_name, is_presence, is_cache}
 use Rattle.ch_history.specs.Limits.{is_user_id}
 use Rattle.ch_history.specs.Placement.{shard_of}
 use Rattle.ch_names.specs.SocketIds.{socket_id_of}
@@ -35,7 +35,7 @@ refused status = Answer (refusal status)
 abbrev pub asks_for : List Ask → ReplyForm → Planned
 asks_for asks form = AskPlan (record { asks = asks; form = form })
 
--- ---- which counts are told
+-- ---- what is told of channels
 
 -- whether the word stands in `info`, between its commas
 abbrev pub info_has : List ℕ → Option (List ℕ) → Bool
@@ -47,6 +47,10 @@ wants_users info = info_has (codes "user_count") info
 
 abbrev pub wants_subs : Option (List ℕ) → Bool
 wants_subs info = info_has (codes "subscription_count") info
+
+-- whether the latest event is asked for, of one channel; elsewhere the word isn't known
+abbrev pub wants_cache : Option (List ℕ) → Bool
+wants_cache info = info_has (codes "cache") info
 
 -- the counts that are told of a channel: users are counted on presence channels alone, and nothing on a user's own channel
 abbrev pub wanted_of : Option (List ℕ) → List ℕ → Wanted
@@ -127,7 +131,8 @@ abbrev pub looks_at : Config → ℕ → List ℕ → Option (List ℕ) → Plan
 looks_at config now name info =
     if not (is_good_name name) then refused 400
     else if wants_users info && not (is_presence name) then refused 400
-    else asks_for (Chan (shard_of name config.chan_shards) (Look name now) ∷ []) (ChannelForm (wanted_of info name))
+    else if wants_cache info && not (is_cache name) then refused 400
+    else asks_for (Chan (shard_of name config.chan_shards) (Look name now) ∷ []) (ChannelForm (wanted_of info name) (wants_cache info))
 
 abbrev pub lists_users : Config → List ℕ → Planned
 lists_users config name =

@@ -1,7 +1,8 @@
 -- What a request is answered (Pusher Channels documentation, HTTP API; RFC 9112, section 4; RFC 9110, section 15).
-use Rattle.std.specs.Prelude.{ℕ, ◌==◌, Bool, nat_lt, List, [], ◌∷◌, ◌++◌, length, map, codes, if◌then◌else◌}
+use Rattle.std.specs.Prelude.{ℕ, ◌==◌, Bool, nat_lt, List, [], ◌∷◌, ◌++◌, length, map, codes, Option, Some, None, if◌then◌else◌}
 use Rattle.std.specs.List.{flat_map, join_with_byte}
 use Rattle.std.specs.Fmt.{decimal}
+use Rattle.ch_base.specs.declared.channel.CacheRow.{CacheRow}
 use Rattle.ch_base.specs.declared.channel.ChanAnswer.TheVariants.{Sent, Rows, Looked, Ids}
 use Rattle.ch_base.specs.declared.channel.NameRow.{NameRow}
 use Rattle.ch_sig.specs.Parameters.{is_before}
@@ -91,11 +92,18 @@ row_member wanted row = member_text row.channel (counts_text wanted row.subs row
 abbrev pub truth : Bool → List ℕ
 truth b = if b then codes "true" else codes "false"
 
--- whether the channel has a subscription, and its counts
-abbrev pub channel_text : Wanted → List Made → List ℕ
-channel_text wanted (Chan (Looked subs users) ∷ mades) =
-    object_text (member_text (codes "occupied") (truth (nat_lt 0 subs)) ∷ count_members wanted subs users)
-channel_text wanted _ = object_text []
+-- the latest event: its data as spelled, and for how many seconds it is kept
+abbrev pub cache_text : Option CacheRow → List ℕ
+cache_text None = codes "null"
+cache_text (Some row) = object_text (member_text (codes "data") row.body ∷ member_text (codes "ttl") (decimal row.ttl) ∷ [])
+
+-- whether the channel has a subscription, its counts, and its latest event where that was asked for
+abbrev pub channel_text : Wanted → Bool → List Made → List ℕ
+channel_text wanted cache (Chan (Looked subs users row) ∷ mades) =
+    object_text (
+    member_text (codes "occupied") (truth (nat_lt 0 subs))
+    ∷ count_members wanted subs users ++ when cache (member_text (codes "cache") (cache_text row)))
+channel_text wanted cache _ = object_text []
 
 abbrev pub id_text : List ℕ → List ℕ
 id_text id = single_text (codes "id") (quoted id)
@@ -112,7 +120,7 @@ body_of Empty mades = object_text []
 body_of (Triggered cs) mades = single_text (codes "channels") (object_text (named_counts cs mades))
 body_of (Batch cs) mades = single_text (codes "batch") (array_text (each_counts cs mades))
 body_of (Channels wanted) mades = single_text (codes "channels") (object_text (map (row_member wanted) (all_rows mades)))
-body_of (Channel wanted) mades = channel_text wanted mades
+body_of (Channel wanted cache) mades = channel_text wanted cache mades
 body_of Users mades = users_text mades
 
 -- the reply to a request whose calls were answered so

@@ -32,8 +32,11 @@ pub enum ReplyForm {
     Batch(CountedList),
     /// The channels with a subscription.
     Channels(Wanted),
-    /// Whether a channel has a subscription, and its counts.
-    Channel(Wanted),
+    /// Whether a channel has a subscription, its counts, and its latest event where that was asked for.
+    Channel {
+        counts: Wanted,
+        cache: bool,
+    },
     /// The users of a presence channel.
     Users,
 }

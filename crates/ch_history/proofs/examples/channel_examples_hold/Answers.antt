@@ -8,6 +8,8 @@ returns c = record {
   two_sockets = proof.two_sockets;
   another_user = proof.another_user;
   cache_newcomers = proof.cache_newcomers;
+  half_an_hour = proof.half_an_hour;
+  slow_caller = proof.slow_caller;
   three_channels_lost = proof.three_channels_lost;
   full_room = proof.full_room;
 }
