@@ -1,5 +1,5 @@
 -- The latest event of each channel among those that are kept.
-use Rattle.std.specs.Prelude.{ℕ, Bool, List, bytes_eq, Option, find, option_map}
+use Rattle.std.specs.Prelude.{ℕ, Bool, ◌&&◌, List, bytes_eq, nat_lt, Option, find, option_map}
 use Rattle.ch_history.specs.declared.rows.Cached.{Cached}
 use Rattle.ch_cache.specs.declared.latest_event.LatestEvent.{LatestEvent}
 
@@ -7,6 +7,14 @@ use Rattle.ch_cache.specs.declared.latest_event.LatestEvent.{LatestEvent}
 abbrev pub is_of : List ℕ → LatestEvent → Bool
 is_of c e = bytes_eq e.channel c
 
--- the event that is kept for the channel c, where there is one
-abbrev pub latest_in : List LatestEvent → List ℕ → Option Cached
-latest_in es c = option_map (λ e. e.cached) (find (is_of c) es)
+-- whether the event hasn't ended by the moment
+abbrev pub lasts : ℕ → LatestEvent → Bool
+lasts at e = nat_lt at e.cached.ends
+
+-- the event of the channel c that hasn't ended by the moment
+abbrev pub found : List LatestEvent → List ℕ → ℕ → Option LatestEvent
+found es c at = find (λ e. is_of c e && lasts at e) es
+
+-- the event that is kept for the channel c at the moment, where there is one
+abbrev pub latest_in : List LatestEvent → List ℕ → ℕ → Option Cached
+latest_in es c at = option_map (λ e. e.cached) (found es c at)
