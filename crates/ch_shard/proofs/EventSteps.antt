@@ -1,16 +1,16 @@
 -- What a Publish and a client event change is what the definitions say of their entries.
-use Rattle.std.proofs.Common.{◌≡◌, ℕ, Bool, true, false, cond, List, [], ◌∷◌, length, refl, ap, sym, subst, ◌∙◌, Option, Some, MatchBool}
+use Rattle.std.proofs.Common.{◌≡◌, ℕ, Bool, true, false, cond, List, [], ◌∷◌, refl, ap, sym, subst, ◌∙◌, append-nil, Option, Some, MatchBool}
 use Rattle.ch_base.specs.Growth.{entry}
 use Rattle.ch_base.specs.declared.channel.ChanCall.TheVariants.{Publish, Say}
 use Rattle.ch_base.specs.declared.channel.ChanAnswer.{ChanAnswer}
-use Rattle.ch_base.specs.declared.channel.ChanAnswer.TheVariants.{Sent, Said, NotOn}
+use Rattle.ch_base.specs.declared.channel.ChanAnswer.TheVariants.{Said, NotOn}
 use Rattle.ch_base.specs.declared.webhook.Hook.TheVariants as hook
 use Rattle.ch_history.specs.Entries.{ChanEntry}
-use Rattle.ch_history.specs.Subscriptions.{on_channel, is_on}
-use Rattle.ch_history.specs.Presence.{users_in, user_in}
+use Rattle.ch_history.specs.Subscriptions.{is_joined, on_channel, is_on}
+use Rattle.ch_history.specs.Presence.{user_in}
 use Rattle.ch_history.specs.Frames.{is_other, broadcast}
 use Rattle.ch_history.proofs.Lists.{list_any-false}
-use Rattle.ch_cache.specs.Latest.{latest_in}
+use Rattle.ch_history.proofs.Subscriptions.{opens_nothing}
 use Rattle.ch_shard.specs.Parts.{Parts, Changes, IsUnchanged, PublishGives, SayGives}
 use Rattle.ch_history.specs.AnswerKinds.{IsAnswerTo}
 use Rattle.ch_shard.proofs.Simulation.{Moves, still, keeps}
@@ -18,57 +18,56 @@ use Rattle.ch_shard.proofs.Stays.{stay}
 
 -- Publish
 
-pub publishes : (old new : Parts) (w : ℕ) (c event body : List ℕ) (except : Option ℕ) (at : ℕ) (a : ChanAnswer)
-    → PublishGives old new c event body except a → Moves old new (entry w (Publish c event body except at) a)
-publishes old new w c event body except at a gives =
-    let P : ChanAnswer → Type 0 = λ x. Moves old new (entry w (Publish c event body except at) x) in
-    let e : ChanEntry = entry w (Publish c event body except at) (Sent (length (on_channel old.subs c)) (length (users_in c (on_channel old.subs c)))) in
-    subst P (sym gives.0) record {
-      answered = refl;
-      subs = gives.1.subs ∙ sym (stay old.subs e (list_any-false old.subs) refl);
-      latest = gives.1.latest;
-      frames = gives.1.frames;
-      log = gives.1.log;
+pub publishes : (old new : Parts) (now w : ℕ) (c event body : List ℕ) (except : Option ℕ) (at : ℕ) (a : ChanAnswer)
+    → PublishGives old new now c event body except a → Moves old new now (entry w (Publish c event body except at) a)
+publishes old new now w c event body except at a gives =
+    let e : ChanEntry = entry w (Publish c event body except at) a in
+    record {
+      answered = gives.answered;
+      subs = gives.subs ∙ sym (stay old.subs e (list_any-false old.subs) (opens_nothing (is_joined a)));
+      latest = gives.latest;
+      frames = gives.frames;
+      log = gives.log ∙ sym (append-nil old.log);
     }
 
 -- A client event
 
-said : (old new : Parts) (w socket : ℕ) (c event body : List ℕ) (at : ℕ) → is_on old.subs socket c ≡ true
-    → Changes old new old.subs (latest_in old.cache)
+said : (old new : Parts) (now w socket : ℕ) (c event body : List ℕ) (at : ℕ) → is_on old.subs socket c ≡ true
+    → Changes old new old.subs
     (broadcast c event body (user_in (on_channel old.subs c) socket) (is_other (Some socket)) (on_channel old.subs c))
     (hook.Client c event body socket (user_in (on_channel old.subs c) socket) ∷ [])
-    → Moves old new (entry w (Say socket c event body at) Said)
-said old new w socket c event body at there changes =
+    → Moves old new now (entry w (Say socket c event body at) Said)
+said old new now w socket c event body at there changes =
     let e : ChanEntry = entry w (Say socket c event body at) Said in
     record {
       answered = sym (ap (λ b. cond b Said NotOn) there);
       subs = changes.subs ∙ sym (stay old.subs e (list_any-false old.subs) refl);
-      latest = keeps old new changes.latest;
+      latest = keeps old new now changes.latest;
       frames = changes.frames;
       log = changes.log;
     }
 
-not_on : (old new : Parts) (w socket : ℕ) (c event body : List ℕ) (at : ℕ) → is_on old.subs socket c ≡ false → IsUnchanged old new
-    → Moves old new (entry w (Say socket c event body at) NotOn)
-not_on old new w socket c event body at off same =
+not_on : (old new : Parts) (now w socket : ℕ) (c event body : List ℕ) (at : ℕ) → is_on old.subs socket c ≡ false → IsUnchanged old new
+    → Moves old new now (entry w (Say socket c event body at) NotOn)
+not_on old new now w socket c event body at off same =
     let e : ChanEntry = entry w (Say socket c event body at) NotOn in
-    still old new e same (sym (ap (λ b. cond b Said NotOn) off)) (stay old.subs e (list_any-false old.subs) refl) (λ d. refl) (λ v. refl) refl refl refl
+    still old new now e same (sym (ap (λ b. cond b Said NotOn) off)) (stay old.subs e (list_any-false old.subs) refl) (λ d. refl) (λ v. refl) refl refl refl
 
-by : (old new : Parts) (w socket : ℕ) (c event body : List ℕ) (at : ℕ) (a : ChanAnswer) (there : Bool) → is_on old.subs socket c ≡ there
+by : (old new : Parts) (now w socket : ℕ) (c event body : List ℕ) (at : ℕ) (a : ChanAnswer) (there : Bool) → is_on old.subs socket c ≡ there
     → MatchBool there
-    ((a ≡ Said) × Changes old new old.subs (latest_in old.cache)
+    ((a ≡ Said) × Changes old new old.subs
     (broadcast c event body (user_in (on_channel old.subs c) socket) (is_other (Some socket)) (on_channel old.subs c))
     (hook.Client c event body socket (user_in (on_channel old.subs c) socket) ∷ []))
     ((a ≡ NotOn) × IsUnchanged old new)
-    → Moves old new (entry w (Say socket c event body at) a)
-by old new w socket c event body at a true is gives =
-    let P : ChanAnswer → Type 0 = λ x. Moves old new (entry w (Say socket c event body at) x) in subst P (sym gives.0) (said old new w socket c event body at is gives.1)
-by old new w socket c event body at a false is gives =
-    let P : ChanAnswer → Type 0 = λ x. Moves old new (entry w (Say socket c event body at) x) in subst P (sym gives.0) (not_on old new w socket c event body at is gives.1)
+    → Moves old new now (entry w (Say socket c event body at) a)
+by old new now w socket c event body at a true is gives =
+    let P : ChanAnswer → Type 0 = λ x. Moves old new now (entry w (Say socket c event body at) x) in subst P (sym gives.0) (said old new now w socket c event body at is gives.1)
+by old new now w socket c event body at a false is gives =
+    let P : ChanAnswer → Type 0 = λ x. Moves old new now (entry w (Say socket c event body at) x) in subst P (sym gives.0) (not_on old new now w socket c event body at is gives.1)
 
-pub says : (old new : Parts) (w socket : ℕ) (c event body : List ℕ) (at : ℕ) (a : ChanAnswer)
-    → SayGives old new socket c event body a → Moves old new (entry w (Say socket c event body at) a)
-says old new w socket c event body at a gives = by old new w socket c event body at a (is_on old.subs socket c) refl gives
+pub says : (old new : Parts) (now w socket : ℕ) (c event body : List ℕ) (at : ℕ) (a : ChanAnswer)
+    → SayGives old new socket c event body a → Moves old new now (entry w (Say socket c event body at) a)
+says old new now w socket c event body at a gives = by old new now w socket c event body at a (is_on old.subs socket c) refl gives
 
 -- a client event is answered Said or NotOn
 kind_by : (old new : Parts) (socket : ℕ) (c event body : List ℕ) (at : ℕ) (a : ChanAnswer) (there : Bool) (A B : Type 0)

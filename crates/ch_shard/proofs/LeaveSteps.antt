@@ -10,7 +10,6 @@ use Rattle.ch_history.specs.Deliveries.{for_owner}
 use Rattle.ch_history.specs.Subscriptions.{on_channel, is_on, channels_in}
 use Rattle.ch_history.specs.Frames.{departure}
 use Rattle.ch_history.specs.Webhooks.{parting}
-use Rattle.ch_cache.specs.Latest.{latest_in}
 use Rattle.ch_outbox.specs.Outbox.{frames_of}
 use Rattle.ch_subs.specs.Subs.{without_one, without_all}
 use Rattle.ch_shard.specs.Parting.{others, leave_frames, leave_hooks}
@@ -21,51 +20,51 @@ use Rattle.ch_shard.proofs.Stays.{stay, none_own, after_leave, after_loss}
 
 -- Leave
 
-ends : (old new : Parts) (w socket : ℕ) (c : List ℕ) (at : ℕ) → is_on old.subs socket c ≡ true
-    → Changes old new (without_one old.subs socket c) (latest_in old.cache) (leave_frames old.subs c socket) (leave_hooks old.subs c socket) → Moves old new (entry w (Leave socket c at) Left)
-ends old new w socket c at there changes =
+ends : (old new : Parts) (now w socket : ℕ) (c : List ℕ) (at : ℕ) → is_on old.subs socket c ≡ true
+    → Changes old new (without_one old.subs socket c) (leave_frames old.subs c socket) (leave_hooks old.subs c socket) → Moves old new now (entry w (Leave socket c at) Left)
+ends old new now w socket c at there changes =
     let ys : List Subscription = on_channel old.subs c in
     let after : others ys socket ≡ on_channel new.subs c = sym (ap (λ xs. on_channel xs c) changes.subs ∙ after_leave old.subs socket c) in
     record {
       answered = sym (ap (λ b. cond b Left NotOn) there);
       subs = changes.subs ∙ sym (append-nil (without_one old.subs socket c));
-      latest = keeps old new changes.latest;
+      latest = keeps old new now changes.latest;
       frames = λ v. changes.frames v ∙ ap (λ zs. frames_of old.outbox v ++ for_owner v (departure c ys zs socket)) after;
       log = changes.log ∙ ap (λ zs. old.log ++ parting c ys zs socket) after;
     }
 
-not_on : (old new : Parts) (w socket : ℕ) (c : List ℕ) (at : ℕ) → is_on old.subs socket c ≡ false → IsUnchanged old new
-    → Moves old new (entry w (Leave socket c at) NotOn)
-not_on old new w socket c at off same =
+not_on : (old new : Parts) (now w socket : ℕ) (c : List ℕ) (at : ℕ) → is_on old.subs socket c ≡ false → IsUnchanged old new
+    → Moves old new now (entry w (Leave socket c at) NotOn)
+not_on old new now w socket c at off same =
     let e : ChanEntry = entry w (Leave socket c at) NotOn in
-    still old new e same (sym (ap (λ b. cond b Left NotOn) off)) (stay old.subs e (none_own old.subs socket c off) refl) (λ d. refl) (λ v. refl) refl refl refl
+    still old new now e same (sym (ap (λ b. cond b Left NotOn) off)) (stay old.subs e (none_own old.subs socket c off) refl) (λ d. refl) (λ v. refl) refl refl refl
 
-by : (old new : Parts) (w socket : ℕ) (c : List ℕ) (at : ℕ) (a : ChanAnswer) (there : Bool) → is_on old.subs socket c ≡ there
+by : (old new : Parts) (now w socket : ℕ) (c : List ℕ) (at : ℕ) (a : ChanAnswer) (there : Bool) → is_on old.subs socket c ≡ there
     → MatchBool there
-    ((a ≡ Left) × Changes old new (without_one old.subs socket c) (latest_in old.cache) (leave_frames old.subs c socket) (leave_hooks old.subs c socket))
+    ((a ≡ Left) × Changes old new (without_one old.subs socket c) (leave_frames old.subs c socket) (leave_hooks old.subs c socket))
     ((a ≡ NotOn) × IsUnchanged old new)
-    → Moves old new (entry w (Leave socket c at) a)
-by old new w socket c at a true is gives =
-    let P : ChanAnswer → Type 0 = λ x. Moves old new (entry w (Leave socket c at) x) in subst P (sym gives.0) (ends old new w socket c at is gives.1)
-by old new w socket c at a false is gives =
-    let P : ChanAnswer → Type 0 = λ x. Moves old new (entry w (Leave socket c at) x) in subst P (sym gives.0) (not_on old new w socket c at is gives.1)
+    → Moves old new now (entry w (Leave socket c at) a)
+by old new now w socket c at a true is gives =
+    let P : ChanAnswer → Type 0 = λ x. Moves old new now (entry w (Leave socket c at) x) in subst P (sym gives.0) (ends old new now w socket c at is gives.1)
+by old new now w socket c at a false is gives =
+    let P : ChanAnswer → Type 0 = λ x. Moves old new now (entry w (Leave socket c at) x) in subst P (sym gives.0) (not_on old new now w socket c at is gives.1)
 
-pub leaves : (old new : Parts) (w socket : ℕ) (c : List ℕ) (at : ℕ) (a : ChanAnswer)
-    → LeaveGives old new socket c a → Moves old new (entry w (Leave socket c at) a)
-leaves old new w socket c at a gives = by old new w socket c at a (is_on old.subs socket c) refl gives
+pub leaves : (old new : Parts) (now w socket : ℕ) (c : List ℕ) (at : ℕ) (a : ChanAnswer)
+    → LeaveGives old new socket c a → Moves old new now (entry w (Leave socket c at) a)
+leaves old new now w socket c at a gives = by old new now w socket c at a (is_on old.subs socket c) refl gives
 
 -- Loss
 
-pub loses : (old new : Parts) (w socket : ℕ) (at : ℕ) (a : ChanAnswer)
-    → LostGives old new socket a → Moves old new (entry w (Lost socket at) a)
-loses old new w socket at a gives =
-    let P : ChanAnswer → Type 0 = λ x. Moves old new (entry w (Lost socket at) x) in
+pub loses : (old new : Parts) (now w socket : ℕ) (at : ℕ) (a : ChanAnswer)
+    → LostGives old new socket a → Moves old new now (entry w (Lost socket at) a)
+loses old new now w socket at a gives =
+    let P : ChanAnswer → Type 0 = λ x. Moves old new now (entry w (Lost socket at) x) in
     let its : List (List ℕ) = channels_in old.subs socket in
     let after : (c : List ℕ) → others (on_channel old.subs c) socket ≡ on_channel new.subs c = λ c. sym (ap (λ xs. on_channel xs c) gives.1.subs ∙ after_loss old.subs socket c) in
     subst P (sym gives.0) record {
       answered = refl;
       subs = gives.1.subs ∙ sym (append-nil (without_all old.subs socket));
-      latest = keeps old new gives.1.latest;
+      latest = keeps old new now gives.1.latest;
       frames = λ v. gives.1.frames v
           ∙ ap (λ fs. frames_of old.outbox v ++ for_owner v fs)
           (flat_map-same (λ c. leave_frames old.subs c socket) (λ c. departure c (on_channel old.subs c) (on_channel new.subs c) socket) its

@@ -9,8 +9,7 @@ use Rattle.ch_history.specs.declared.rows.Delivery.{Delivery}
 use Rattle.ch_history.specs.Subscriptions.{on_channel, channels_in}
 use Rattle.ch_history.specs.ChannelName.{is_presence, is_cache}
 use Rattle.ch_history.specs.Presence.{user_in, has_user, rows_in}
-use Rattle.ch_cache.specs.Latest.{latest_in}
-use Rattle.ch_shard.specs.Parts.{Parts, join_frames}
+use Rattle.ch_shard.specs.Parts.{Parts, kept_at, join_frames}
 use Rattle.ch_history.specs.Frames.{to, latest_frame, arrival, is_gone, departure_of}
 use Rattle.ch_shard.specs.Parting.{others, leave_frames}
 
@@ -60,14 +59,14 @@ arrival_owned c before (Some m) all =
     ]
 
 -- the frames of a newcomer
-pub join_owned : (old : Parts) (n : Subscription) → All OwnsSub old.subs → n.owner < 64 → All OwnsFrame (join_frames old n)
-join_owned old n all below =
+pub join_owned : (old : Parts) (now : ℕ) (n : Subscription) → All OwnsSub old.subs → n.owner < 64 → All OwnsFrame (join_frames old now n)
+join_owned old now n all below =
     let c : List ℕ = n.channel in
     let after : List Subscription = on_channel (old.subs ++ n ∷ []) c in
     let first : Frame = cond (is_presence c) (Present c (rows_in c after)) (Succeeded c) in
-    let news : List Delivery = cond (is_cache c) (to (latest_frame c (latest_in old.cache c)) n ∷ []) [] in
-    let news_owned : All OwnsFrame news = elim (is_cache c) as (λ b. All OwnsFrame (cond b (to (latest_frame c (latest_in old.cache c)) n ∷ []) [])) [
-      | true ↦ All-cons OwnsFrame (to (latest_frame c (latest_in old.cache c)) n) [] below (All-nil OwnsFrame)
+    let news : List Delivery = cond (is_cache c) (to (latest_frame c (kept_at old now c)) n ∷ []) [] in
+    let news_owned : All OwnsFrame news = elim (is_cache c) as (λ b. All OwnsFrame (cond b (to (latest_frame c (kept_at old now c)) n ∷ []) [])) [
+      | true ↦ All-cons OwnsFrame (to (latest_frame c (kept_at old now c)) n) [] below (All-nil OwnsFrame)
       | false ↦ All-nil OwnsFrame
     ] in
     All-append OwnsFrame (to first n ∷ news) (arrival c (on_channel old.subs c) n.member)

@@ -13,13 +13,13 @@ use Rattle.ch_shard.specs.Parts.{Parts, TakeGives, TakeHooksGives, looked, user_
 use Rattle.ch_shard.proofs.Simulation.{Moves, still, keeps, IsUnchanged-itself}
 use Rattle.ch_shard.proofs.Stays.{stay}
 
-pub takes_frames : (old new : Parts) (w : ℕ) (a : ChanAnswer) → TakeGives old new w a → Moves old new (entry w Take a)
-takes_frames old new w a gives =
+pub takes_frames : (old new : Parts) (now w : ℕ) (a : ChanAnswer) → TakeGives old new w a → Moves old new now (entry w Take a)
+takes_frames old new now w a gives =
     let e : ChanEntry = entry w Take a in
     record {
       answered = gives.answered;
       subs = gives.subs ∙ sym (stay old.subs e (list_any-false old.subs) (opens_nothing (is_joined a)));
-      latest = keeps old new gives.latest;
+      latest = keeps old new now gives.latest;
       frames = λ v.
           (elim (w == v) as (λ b. (w == v) ≡ b → frames_of new.outbox v ≡ cond b [] (frames_of old.outbox v ++ [])) [
             | true ↦ (λ is. let same : v ≡ w = grind (arith, nat_tests) in rw same gives.emptied)
@@ -28,28 +28,28 @@ takes_frames old new w a gives =
       log = gives.log ∙ sym (append-nil old.log);
     }
 
-pub takes_hooks : (old new : Parts) (w at : ℕ) (a : ChanAnswer) → TakeHooksGives old new a → Moves old new (entry w (TakeHooks at) a)
-takes_hooks old new w at a gives =
+pub takes_hooks : (old new : Parts) (now w at : ℕ) (a : ChanAnswer) → TakeHooksGives old new a → Moves old new now (entry w (TakeHooks at) a)
+takes_hooks old new now w at a gives =
     let e : ChanEntry = entry w (TakeHooks at) a in
     record {
       answered = gives.answered;
       subs = gives.subs ∙ sym (stay old.subs e (list_any-false old.subs) (opens_nothing (is_joined a)));
-      latest = keeps old new gives.latest;
+      latest = keeps old new now gives.latest;
       frames = λ v. gives.frames v ∙ sym (append-nil (frames_of old.outbox v));
       log = gives.log;
     }
 
-pub looks : (k : Parts) (w : ℕ) (c : List ℕ) (at : ℕ) (a : ChanAnswer) → a ≡ looked k.subs c → Moves k k (entry w (Look c at) a)
-looks k w c at a is =
-    let e : ChanEntry = entry w (Look c at) a in
-    still k k e (IsUnchanged-itself k) is (stay k.subs e (list_any-false k.subs) (opens_nothing (is_joined a))) (λ d. refl) (λ v. refl) refl refl refl
+pub looks : (k : Parts) (now w : ℕ) (c : List ℕ) (at : ℕ) → Moves k k now (entry w (Look c at) (looked k now c))
+looks k now w c at =
+    let e : ChanEntry = entry w (Look c at) (looked k now c) in
+    still k k now e (IsUnchanged-itself k) refl (stay k.subs e (list_any-false k.subs) refl) (λ d. refl) (λ v. refl) refl refl refl
 
-pub lists_users : (k : Parts) (w : ℕ) (c : List ℕ) → Moves k k (entry w (Users c) (user_ids k.subs c))
-lists_users k w c =
+pub lists_users : (k : Parts) (now w : ℕ) (c : List ℕ) → Moves k k now (entry w (Users c) (user_ids k.subs c))
+lists_users k now w c =
     let e : ChanEntry = entry w (Users c) (user_ids k.subs c) in
-    still k k e (IsUnchanged-itself k) refl (stay k.subs e (list_any-false k.subs) refl) (λ d. refl) (λ v. refl) refl refl refl
+    still k k now e (IsUnchanged-itself k) refl (stay k.subs e (list_any-false k.subs) refl) (λ d. refl) (λ v. refl) refl refl refl
 
-pub lists_names : (k : Parts) (w : ℕ) (prefix : List ℕ) → Moves k k (entry w (Names prefix) (name_rows k.subs prefix))
-lists_names k w prefix =
+pub lists_names : (k : Parts) (now w : ℕ) (prefix : List ℕ) → Moves k k now (entry w (Names prefix) (name_rows k.subs prefix))
+lists_names k now w prefix =
     let e : ChanEntry = entry w (Names prefix) (name_rows k.subs prefix) in
-    still k k e (IsUnchanged-itself k) refl (stay k.subs e (list_any-false k.subs) refl) (λ d. refl) (λ v. refl) refl refl refl
+    still k k now e (IsUnchanged-itself k) refl (stay k.subs e (list_any-false k.subs) refl) (λ d. refl) (λ v. refl) refl refl refl

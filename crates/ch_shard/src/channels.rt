@@ -34,7 +34,9 @@ impl Model for Channels {
 }
 
 impl Channels {
+    ghost use Rattle.ch_history.specs.Clock.{clock, clock_with};
     ghost use Rattle.ch_history.specs.Entries.{ChanHistory};
+    ghost use Rattle.ch_history.specs.Limits.{IsMoment};
     ghost use Rattle.ch_history.specs.WellFormed.{IsWellFormed};
     ghost use Rattle.ch_shard.specs.Holds.{Holds};
     ghost use Rattle.ch_history.specs.AnswerKinds.{IsAnswerTo};
@@ -60,11 +62,13 @@ impl Channels {
         self.subs.len()
     }
 
-    /// Serves one call. All memory of a call is taken before its first change.
-    pub fn serve(&mut self, caller: u64, call: &ChanCall) -> Result<ChanAnswer, Memory>
+    /// Serves one call; `now` is the shard's clock with it. All memory of a call is taken before its first
+    /// change.
+    pub fn serve(&mut self, caller: u64, call: &ChanCall, now: u64) -> Result<ChanAnswer, Memory>
         requires caller { caller < 64 }
         requires formed { IsWellFormed call.now }
-        ensures stands { (h : ChanHistory) → Holds self.old h → MatchResult result
+        requires moment { IsMoment now }
+        ensures stands { (h : ChanHistory) → now ≡ clock_with (clock h) call.now → Holds self.old h → MatchResult result
             (λ answer. Holds self.new (h ++ entry caller call.now answer ∷ []))
             (λ _. Holds self.new h) }
         ensures take { call.now ≡ ChanCall.Take → IsOk result }
@@ -77,7 +81,7 @@ impl Channels {
                 channel,
                 member,
                 ..
-            } => self.join(caller, *socket, channel, member.as_ref()),
+            } => self.join(caller, *socket, channel, member.as_ref(), now),
             ChanCall::Leave {
                 socket,
                 channel,
@@ -90,7 +94,7 @@ impl Channels {
                 body,
                 except,
                 ..
-            } => self.publish(channel, event, body, *except),
+            } => self.publish(channel, event, body, *except, now),
             ChanCall::Say {
                 socket,
                 channel,
@@ -101,7 +105,7 @@ impl Channels {
             ChanCall::Take => Ok(self.take(caller)),
             ChanCall::TakeHooks { .. } => Ok(self.take_hooks()),
             ChanCall::Names { prefix } => self.names(prefix),
-            ChanCall::Look { channel, .. } => Ok(self.look(channel)),
+            ChanCall::Look { channel, .. } => self.look(channel, now),
             ChanCall::Users { channel } => self.users(channel),
         }
     }

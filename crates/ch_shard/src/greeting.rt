@@ -1,6 +1,5 @@
 ghost use Rattle.std.specs.Prelude.{◌≡◌, ◌∷◌, [], ◌++◌, IfOk, OnOk, IsTrue};
 ghost use Rattle.std.specs.Option.{option_copied};
-ghost use Rattle.ch_cache.specs.Latest.{latest_in};
 ghost use Rattle.ch_history.specs.ChannelName.{is_good_name};
 ghost use Rattle.ch_history.specs.Frames.{latest_frame};
 ghost use Rattle.ch_history.specs.Subscriptions.{on_channel};
@@ -12,8 +11,7 @@ use crate::kinds::is_cache;
 use crate::news::event_frame;
 use crate::telling::tell;
 use ch_base::{Frame, FrameFor, Hook, Member, MemberList, Memory, Text};
-use ch_cache::Cache;
-use ch_history::Delivery;
+use ch_history::{Cached, Delivery};
 use ch_presence::{Presence, Present};
 use ch_subs::Subs;
 use std::alloc::Global;
@@ -50,20 +48,20 @@ fn member_rows(alloc: Global, presence: &Presence, newcomer: &Present) -> Result
     Ok(rows)
 }
 
-/// Adds what a newcomer gets of the latest event of a cache channel.
+/// Adds what a newcomer gets of a cache channel's latest event.
 pub fn tell_latest(
     alloc: Global,
-    cache: &Cache,
+    latest: Option<&Cached>,
     owner: u64,
     socket: u64,
     channel: &Text,
     frames: &mut Vec<Delivery>,
 ) -> Result<(), Memory>
     requires { IsTrue (is_good_name channel.now) }
-    ensures { OnOk result (frames.new.items ≡ frames.old.items ++ latest_news channel.now (latest_in cache.now channel.now) owner socket) }
+    ensures { OnOk result (frames.new.items ≡ frames.old.items ++ latest_news channel.now (option_copied latest.entry) owner socket) }
 {
     if is_cache(channel) {
-        let frame = latest_frame(alloc, cache, channel)?;
+        let frame = latest_frame(alloc, latest, channel)?;
         let item = FrameFor { socket, frame };
         frames.push(Delivery { owner, item })?;
     }
@@ -71,10 +69,10 @@ pub fn tell_latest(
 }
 
 /// The channel's latest event, or that there is none.
-fn latest_frame(alloc: Global, cache: &Cache, channel: &Text) -> Result<Frame, Memory>
-    ensures { IfOk result (λ f. f ≡ latest_frame channel.now (latest_in cache.now channel.now)) }
+fn latest_frame(alloc: Global, latest: Option<&Cached>, channel: &Text) -> Result<Frame, Memory>
+    ensures { IfOk result (λ f. f ≡ latest_frame channel.now (option_copied latest.entry)) }
 {
-    match cache.latest(channel) {
+    match latest {
         None => Ok(Frame::Miss {
             channel: channel.copy(alloc)?,
         }),
@@ -161,14 +159,14 @@ pub fn log_arrival(
 /// Adds the webhook event that the newcomer was told of no latest event.
 pub fn log_missed(
     alloc: Global,
-    cache: &Cache,
+    latest: Option<&Cached>,
     channel: &Text,
     hooks: &mut Vec<Hook>,
 ) -> Result<(), Memory>
     requires { IsTrue (is_good_name channel.now) }
-    ensures { OnOk result (hooks.new.items ≡ hooks.old.items ++ missed channel.now (latest_in cache.now channel.now)) }
+    ensures { OnOk result (hooks.new.items ≡ hooks.old.items ++ missed channel.now (option_copied latest.entry)) }
 {
-    if is_cache(channel) && cache.latest(channel).is_none() {
+    if is_cache(channel) && latest.is_none() {
         let channel = channel.copy(alloc)?;
         hooks.push(Hook::Miss { channel })?;
     }

@@ -30,11 +30,12 @@ impl Channels {
         socket: u64,
         channel: &Text,
         member: Option<&Member>,
+        now: u64,
     ) -> Result<ChanAnswer, Memory>
         requires caller { caller < 64 }
         requires name { IsTrue (is_good_name channel.now) }
         requires member { IsMemberOf (is_presence channel.now) (option_copied member) }
-        ensures { MatchResult result (λ answer. JoinGives self.old self.new (newcomer caller socket channel.now (option_copied member.entry)) answer) (λ _. IsUnchanged self.old self.new) }
+        ensures { MatchResult result (λ answer. JoinGives self.old self.new now (newcomer caller socket channel.now (option_copied member.entry)) answer) (λ _. IsUnchanged self.old self.new) }
     {
         if self.subs.on(socket, channel) {
             return Ok(ChanAnswer::Already);
@@ -43,8 +44,8 @@ impl Channels {
             return Ok(ChanAnswer::Crowded);
         }
         let row = newcomer_row(self.alloc, channel, socket, member)?;
-        let frames = self.greeting_frames(caller, socket, channel, member, row.as_ref())?;
-        let hooks = self.greeting_hooks(channel, member)?;
+        let frames = self.greeting_frames(caller, socket, channel, member, row.as_ref(), now)?;
+        let hooks = self.greeting_hooks(channel, member, now)?;
         let made = Made { frames, hooks };
         make_room(&mut self.outbox, &mut self.log, &made)?;
         self.presence.reserve(1)?;
@@ -65,7 +66,7 @@ impl Channels {
         }
     }
 
-    /// The frames that the newcomer makes.
+    /// The frames that the newcomer makes at the moment.
     fn greeting_frames(
         &self,
         caller: u64,
@@ -73,11 +74,12 @@ impl Channels {
         channel: &Text,
         member: Option<&Member>,
         row: Option<&Present>,
+        now: u64,
     ) -> Result<Vec<Delivery>, Memory>
         requires name { IsTrue (is_good_name channel.now) }
         requires member { IsMemberOf (is_presence channel.now) (option_copied member) }
         requires row { option_copied row ≡ newcomer_row channel.now socket (option_copied member) }
-        ensures { IfOk result (λ made. made.items ≡ join_frames self.now (newcomer caller socket channel.now (option_copied member.entry))) }
+        ensures { IfOk result (λ made. made.items ≡ join_frames self.now now (newcomer caller socket channel.now (option_copied member.entry))) }
     {
         let mut frames = Vec::new(self.alloc);
         let frame = first_frame(self.alloc, &self.presence, channel, row)?;
@@ -88,7 +90,7 @@ impl Channels {
         })?;
         tell_latest(
             self.alloc,
-            &self.cache,
+            self.cache.latest(channel, now),
             caller,
             socket,
             channel,
@@ -99,18 +101,28 @@ impl Channels {
         Ok(frames)
     }
 
-    /// The webhook events that the newcomer makes.
-    fn greeting_hooks(&self, channel: &Text, member: Option<&Member>) -> Result<Vec<Hook>, Memory>
+    /// The webhook events that the newcomer makes at the moment.
+    fn greeting_hooks(
+        &self,
+        channel: &Text,
+        member: Option<&Member>,
+        now: u64,
+    ) -> Result<Vec<Hook>, Memory>
         requires name { IsTrue (is_good_name channel.now) }
         requires member { IsMemberOf (is_presence channel.now) (option_copied member) }
-        ensures { IfOk result (λ made. made.items ≡ join_hooks self.now (newcomer 0 0 channel.now (option_copied member.entry))) }
+        ensures { IfOk result (λ made. made.items ≡ join_hooks self.now now (newcomer 0 0 channel.now (option_copied member.entry))) }
     {
         let mut hooks = Vec::new(self.alloc);
         let count = self.subs.count(channel);
         log_occupied(self.alloc, count, channel, &mut hooks)?;
         let user = new_user(&self.presence, channel, member);
         log_arrival(self.alloc, channel, user, &mut hooks)?;
-        log_missed(self.alloc, &self.cache, channel, &mut hooks)?;
+        log_missed(
+            self.alloc,
+            self.cache.latest(channel, now),
+            channel,
+            &mut hooks,
+        )?;
         Ok(hooks)
     }
 }

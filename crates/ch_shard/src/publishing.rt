@@ -1,9 +1,10 @@
-ghost use Rattle.std.specs.Prelude.{◌≡◌, ℕ, List, None, IfOk, OnOk, OnErr, IsTrue, MatchResult, []};
+ghost use Rattle.std.specs.Prelude.{◌≡◌, ◌≤◌, ℕ, List, None, IfOk, OnOk, OnErr, IsTrue, MatchResult, []};
 ghost use Rattle.ch_cache.specs.Latest.{latest_in};
 ghost use Rattle.ch_history.specs.ChannelName.{is_good_name};
 ghost use Rattle.ch_history.specs.Frames.{is_other, broadcast};
+ghost use Rattle.ch_history.specs.Limits.{IsMoment};
 ghost use Rattle.ch_history.specs.Subscriptions.{on_channel};
-ghost use Rattle.ch_shard.specs.Parts.{IsUnchanged, PublishGives, after_event};
+ghost use Rattle.ch_shard.specs.Parts.{IsUnchanged, PublishGives, after_event, event_at};
 
 use crate::channels::Channels;
 use crate::kinds::is_cache;
@@ -22,15 +23,17 @@ impl Channels {
         event: &Text,
         body: &Text,
         except: Option<u64>,
+        now: u64,
     ) -> Result<ChanAnswer, Memory>
-        requires { IsTrue (is_good_name channel.now) }
-        ensures { MatchResult result (λ answer. PublishGives self.old self.new channel.now event.now body.now except answer) (λ _. IsUnchanged self.old self.new) }
+        requires name { IsTrue (is_good_name channel.now) }
+        requires moment { IsMoment now }
+        ensures { MatchResult result (λ answer. PublishGives self.old self.new now channel.now event.now body.now except answer) (λ _. IsUnchanged self.old self.new) }
     {
         let subs = self.subs.count(channel);
         let users = self.user_count(channel);
         let made = published(self.alloc, &self.subs, channel, event, body, except)?;
         make_room(&mut self.outbox, &mut self.log, &made)?;
-        keep(&mut self.cache, channel, event, body)?;
+        keep(&mut self.cache, channel, event, body, now)?;
         hand_over(&mut self.outbox, &mut self.log, made);
         Ok(ChanAnswer::Sent { subs, users })
     }
@@ -54,16 +57,43 @@ fn published(
     Ok(made)
 }
 
-/// Makes this the latest event of the channel, where it keeps one. Each channel has the one that it had
-/// after want of memory.
-fn keep(cache: &mut Cache, channel: &Text, event: &Text, body: &Text) -> Result<(), Memory>
-    requires { IsTrue (is_good_name channel.now) }
-    ensures ok { OnOk result ((d : List ℕ) → latest_in cache.new d ≡ after_event (latest_in cache.old) channel.now event.now body.now d) }
-    ensures err { OnErr result ((d : List ℕ) → latest_in cache.new d ≡ latest_in cache.old d) }
+/// Makes this the latest event of the channel, where it keeps one, and removes the events that have ended. Nothing
+/// changes after want of memory.
+fn keep(
+    cache: &mut Cache,
+    channel: &Text,
+    event: &Text,
+    body: &Text,
+    now: u64,
+) -> Result<(), Memory>
+    requires name { IsTrue (is_good_name channel.now) }
+    requires moment { IsMoment now }
+    ensures ok { OnOk result ((d : List ℕ) (at : ℕ) → now ≤ at
+        → latest_in cache.new d at ≡ after_event (latest_in cache.old) channel.now (event_at now event.now body.now) d at) }
+    ensures err { OnErr result (cache.new ≡ cache.old) }
+{
+    put_latest(cache, channel, event, body, now)?;
+    cache.sweep(now);
+    Ok(())
+}
+
+/// Makes this the latest event of the channel, where it keeps one. Nothing changes after want of memory.
+fn put_latest(
+    cache: &mut Cache,
+    channel: &Text,
+    event: &Text,
+    body: &Text,
+    now: u64,
+) -> Result<(), Memory>
+    requires name { IsTrue (is_good_name channel.now) }
+    requires moment { IsMoment now }
+    ensures ok { OnOk result ((d : List ℕ) (at : ℕ)
+        → latest_in cache.new d at ≡ after_event (latest_in cache.old) channel.now (event_at now event.now body.now) d at) }
+    ensures err { OnErr result (cache.new ≡ cache.old) }
 {
     if !is_cache(channel) {
         return Ok(());
     }
-    cache.put(channel, event, body)?;
+    cache.put(channel, event, body, now)?;
     Ok(())
 }

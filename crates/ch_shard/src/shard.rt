@@ -6,24 +6,29 @@ ghost use Rattle.ch_subs.specs.Names.{names};
 
 use crate::brief::Brief;
 use crate::channels::Channels;
+use crate::clock::clock_with;
 use crate::tail::Tail;
 use ch_base::{ChanAnswer, ChanCall, Memory};
 use std::alloc::Global;
 use std::marker::Model;
 
-/// A channel shard: its channels, and its last entries in brief.
+/// A channel shard: its channels, its last entries in brief, and its clock, a moment in milliseconds.
 #[derive(Drop)]
 pub struct ChanShard {
     channels: Channels,
     tail: Tail,
+    clock: u64,
 }
 
 impl Model for ChanShard {
+    ghost use Rattle.ch_history.specs.Limits.{IsMoment};
     ghost use Rattle.ch_shard.specs.Kept.{Kept};
 
     ghost Value = { Kept };
 
-    ghost view = { λ s. record { parts = s.channels; tail = s.tail } };
+    ghost view = { λ s. record { parts = s.channels; tail = s.tail; clock = s.clock } };
+
+    ghost invariant = { λ s. IsMoment s.clock };
 }
 
 impl ChanShard {
@@ -41,12 +46,14 @@ impl ChanShard {
         Ok(ChanShard {
             channels: Channels::new(alloc),
             tail: Tail::new(alloc)?,
+            clock: 0,
         })
     }
 
     /// Serves one call of a caller, who has a number below 64.
     ///
-    /// All memory of a call is taken before its first change. The laws hold of every history that the
+    /// All memory of a call is taken before its first change. A call whose moment is below that of an
+    /// earlier one is made at the greatest moment so far: that is the shard's clock. The laws hold of every history that the
     /// shard then stands for: `channel_occupied` and `channel_vacated` of each channel alternate and end
     /// at whether a socket is subscribed, `member_added` and `member_removed` of each user of a presence
     /// channel alternate and end at whether the user is there, and a newcomer of a cache channel is sent
@@ -64,8 +71,10 @@ impl ChanShard {
         ensures membership { (h : ChanHistory) → Stands self.new h → (c id : List ℕ) → IsTrue (is_presence c) → MembershipAlternates h c id }
         ensures newcomers { (h : ChanHistory) → Stands self.new h → NewcomersGreeted h }
     {
-        let answer = self.channels.serve(caller, call)?;
+        let now = clock_with(self.clock, call);
+        let answer = self.channels.serve(caller, call, now)?;
         self.tail.note(caller, call);
+        self.clock = now;
         Ok(answer)
     }
 

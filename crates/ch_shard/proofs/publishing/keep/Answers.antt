@@ -1,13 +1,5 @@
-use Rattle.std.proofs.Common.{◌∙◌, sym}
-use Rattle.ch_cache.specs.Latest.{latest_in}
-use Rattle.ch_shard.proofs.LatestEvents.{not_kept, now_kept}
+use Rattle.std.proofs.Common.{◌∙◌}
 use Rattle.ch_shard.proofs.publishing.keep.Goals as goal
 
-pub returns-then-not-is_cache-clause-ok : goal.returns-then-not-is_cache-clause-ok
-returns-then-not-is_cache-clause-ok c =
-    λ d. not_kept (latest_in c.args.cache.now) c.args.channel.now c.args.event.now c.args.body.now d (sym c.is_cache.ensures ∙ c.if-not-is_cache.true)
-
 pub returns-clause-ok : goal.returns-clause-ok
-returns-clause-ok c =
-    λ d. c.in_ok-put.ensures.ok d
-    ∙ now_kept (latest_in c.args.cache.now) c.args.channel.now c.args.event.now c.args.body.now d (sym c.is_cache.ensures ∙ c.if-not-is_cache.false)
+returns-clause-ok c = λ d at on. c.sweep.ensures.latest d at on ∙ c.in_ok-put_latest.ensures.ok d at

@@ -1,4 +1,4 @@
-use Rattle.std.proofs.Common.{◌∙◌, ◌++◌, ◌∷◌, [], ap}
+use Rattle.std.proofs.Common.{◌∙◌, ◌++◌, ◌∷◌, [], ap, ap₂}
 use Rattle.std.specs.Option.{option_copied}
 use Rattle.ch_cache.specs.Latest.{latest_in}
 use Rattle.ch_history.specs.Frames.{to}
@@ -17,11 +17,11 @@ returns c =
     let user = option_copied c.new_user-user.result in
     let xs = c.self.inside.subs in
     let rows = c.self.inside.presence.rows in
-    let kept = latest_in c.self.inside.cache d in
+    let kept = latest_in c.self.inside.cache d c.args.now in
     let n = newcomer w socket d member in
     c.in_ok-tell_arrival.ensures
     ∙ ap (λ fs. fs ++ arrived d user (on_channel xs d))
     (c.in_ok-tell_latest.ensures
-    ∙ ap (λ fs. fs ++ latest_news d kept w socket) (c.in_ok-push.ensures.items ∙ ap (λ fs. fs ++ to c.in_ok-frame.frame n ∷ []) c.new-frames.ensures.items))
+    ∙ ap₂ (λ fs o. fs ++ latest_news d o w socket) (c.in_ok-push.ensures.items ∙ ap (λ fs. fs ++ to c.in_ok-frame.frame n ∷ []) c.new-frames.ensures.items) c.latest.ensures)
     ∙ join_frames_are xs rows kept w socket d member c.in_ok-frame.frame user c.self.invariant c.requires.member (c.in_ok-frame.ensures ∙ ap (first_frame rows d) c.requires.row) c.new_user-user.ensures
-    ∙ ap (λ (k : Parts). join_frames k n) c.self.view_is
+    ∙ ap (λ (k : Parts). join_frames k c.args.now n) c.self.view_is

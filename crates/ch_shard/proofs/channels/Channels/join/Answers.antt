@@ -16,13 +16,13 @@ pub make_room-requires : goal.make_room-requires
 make_room-requires c =
     let n = newcomer c.args.caller c.args.socket c.args.channel.now (option_copied c.args.member) in
     let P = λ (k : Parts). All OwnsSub k.subs in
-    subst (All OwnsFrame) (sym c.in_ok-frames.ensures) (join_owned c.args.self.now n (subst P c.self.view_is c.self.invariant.owners) c.requires.caller)
+    subst (All OwnsFrame) (sym c.in_ok-frames.ensures) (join_owned c.args.self.now c.args.now n (subst P c.self.view_is c.self.invariant.owners) c.requires.caller)
 
 pub hand_over-requires-clause-owners : goal.hand_over-requires-clause-owners
 hand_over-requires-clause-owners c =
     let n = newcomer c.args.caller c.args.socket c.args.channel.now (option_copied c.args.member) in
     let P = λ (k : Parts). All OwnsSub k.subs in
-    subst (All OwnsFrame) (sym c.in_ok-frames.ensures) (join_owned c.args.self.now n (subst P c.self.view_is c.self.invariant.owners) c.requires.caller)
+    subst (All OwnsFrame) (sym c.in_ok-frames.ensures) (join_owned c.args.self.now c.args.now n (subst P c.self.view_is c.self.invariant.owners) c.requires.caller)
 
 pub enter-requires-clause-absent : goal.enter-requires-clause-absent
 enter-requires-clause-absent c =

@@ -23,7 +23,7 @@ returns c =
       ap (λ n. Gone n) c.lost-count.ensures.answer,
       record {
         subs = c.lost-count.ensures.subs;
-        latest = λ d. refl;
+        latest = λ d at. refl;
         frames = λ w. c.hand_over.ensures.frames w ∙ ap₂ (λ ws ds. ws ++ for_owner w ds) (c.in_ok-make_room.ensures.frames w) c.in_ok-made.ensures.frames;
         log = c.hand_over.ensures.hooks ∙ ap₂ ◌++◌ c.in_ok-make_room.ensures.hooks c.in_ok-made.ensures.hooks;
       },

@@ -1,4 +1,4 @@
-use Rattle.std.proofs.Common.{◌∙◌, ◌++◌, length, ap, ap₂, refl, None, All, sym, subst}
+use Rattle.std.proofs.Common.{◌∙◌, ◌++◌, length, ap, ap₂, refl, append-nil, None, All, sym, subst}
 use Rattle.ch_base.specs.declared.frame.Frame.TheVariants.{Event}
 use Rattle.ch_base.specs.declared.channel.ChanAnswer.TheVariants.{Sent}
 use Rattle.ch_history.specs.Deliveries.{for_owner}
@@ -23,11 +23,11 @@ pub returns : goal.returns
 returns c =
     let d = c.args.channel.now in
     rw (← c.self.view_is) (
-      ap₂ (λ n u. Sent n u) c.count-subs.ensures (c.user_count-users.ensures ∙ ap (λ (k : Parts). length (users_in d (on_channel k.subs d))) (sym c.self.view_is)),
-      record {
-        subs = refl;
-        latest = c.in_ok-keep.ensures.ok;
-        frames = λ w. c.hand_over.ensures.frames w ∙ ap₂ (λ ws ds. ws ++ for_owner w ds) (c.in_ok-make_room.ensures.frames w) c.in_ok-made.ensures.frames;
-        log = c.hand_over.ensures.hooks ∙ ap₂ ◌++◌ c.in_ok-make_room.ensures.hooks c.in_ok-made.ensures.hooks;
-      },
+    record {
+      answered = ap₂ (λ n u. Sent n u) c.count-subs.ensures (c.user_count-users.ensures ∙ ap (λ (k : Parts). length (users_in d (on_channel k.subs d))) (sym c.self.view_is));
+      subs = refl;
+      latest = c.in_ok-keep.ensures.ok;
+      frames = λ w. c.hand_over.ensures.frames w ∙ ap₂ (λ ws ds. ws ++ for_owner w ds) (c.in_ok-make_room.ensures.frames w) c.in_ok-made.ensures.frames;
+      log = c.hand_over.ensures.hooks ∙ ap₂ ◌++◌ c.in_ok-make_room.ensures.hooks c.in_ok-made.ensures.hooks ∙ append-nil c.self.inside.log.hooks;
+    }
     )

@@ -12,38 +12,38 @@ use Rattle.ch_shard.proofs.TakeSteps.{takes_frames, takes_hooks, looks, lists_us
 use Rattle.ch_shard.proofs.channels.Channels.serve.Goals as goal
 
 pub returns-in-Join-clause-stands : goal.returns-in-Join-clause-stands
-returns-in-Join-clause-stands c = λ h stands.
+returns-in-Join-clause-stands c = λ h clocked stands.
     let n = newcomer c.args.caller c.in-Join.socket c.in-Join.channel (option_copied c.as_ref.result) in
     let shown = c.in-Join.is ∙ ap (λ m. Join c.in-Join.socket c.in-Join.channel m c.in-Join.at) (sym c.as_ref.ensures.value) in
-    Holds-served _ _ h _ _ (JoinGives c.args.self.now c.join.new.self n) _ c.requires.caller c.requires.formed stands
-    (λ a gives. Moves-as _ _ _ _ _ a shown (joins c.args.self.now c.join.new.self n c.in-Join.at a gives)) c.join.ensures
+    Holds-served _ _ h _ _ _ (JoinGives c.args.self.now c.join.new.self c.args.now n) _ c.requires.caller c.requires.formed clocked stands
+    (λ a gives. Moves-as _ _ _ _ _ _ a shown (joins c.args.self.now c.join.new.self c.args.now n c.in-Join.at a gives)) c.join.ensures
 
 pub returns-in-Join-clause-kind : goal.returns-in-Join-clause-kind
 returns-in-Join-clause-kind c =
     let n = newcomer c.args.caller c.in-Join.socket c.in-Join.channel (option_copied c.as_ref.result) in
     let shown = c.in-Join.is ∙ ap (λ m. Join c.in-Join.socket c.in-Join.channel m c.in-Join.at) (sym c.as_ref.ensures.value) in
-    answers_so (IsAnswerTo c.args.call.now) (JoinGives c.args.self.now c.join.new.self n) _ _
-    (λ a gives. let P = λ (x : ChanCall). IsAnswerTo x a in subst P (sym shown) (join_kind c.args.self.now c.join.new.self n c.in-Join.at a gives)) c.join.ensures
+    answers_so (IsAnswerTo c.args.call.now) (JoinGives c.args.self.now c.join.new.self c.args.now n) _ _
+    (λ a gives. let P = λ (x : ChanCall). IsAnswerTo x a in subst P (sym shown) (join_kind c.args.self.now c.join.new.self c.args.now n c.in-Join.at a gives)) c.join.ensures
 
 pub returns-in-Leave-clause-stands : goal.returns-in-Leave-clause-stands
-returns-in-Leave-clause-stands c = λ h stands.
-    Holds-served _ _ h _ _ (LeaveGives c.args.self.now c.leave.new.self c.in-Leave.socket c.in-Leave.channel) _ c.requires.caller c.requires.formed stands
-    (λ a gives. Moves-as _ _ _ _ _ a c.in-Leave.is (leaves _ _ _ _ _ _ a gives)) c.leave.ensures
+returns-in-Leave-clause-stands c = λ h clocked stands.
+    Holds-served _ _ h _ _ _ (LeaveGives c.args.self.now c.leave.new.self c.in-Leave.socket c.in-Leave.channel) _ c.requires.caller c.requires.formed clocked stands
+    (λ a gives. Moves-as _ _ _ _ _ _ a c.in-Leave.is (leaves _ _ _ _ _ _ _ a gives)) c.leave.ensures
 
 pub returns-in-Lost-clause-stands : goal.returns-in-Lost-clause-stands
-returns-in-Lost-clause-stands c = λ h stands.
-    Holds-served _ _ h _ _ (LostGives c.args.self.now c.lost.new.self c.in-Lost.socket) _ c.requires.caller c.requires.formed stands
-    (λ a gives. Moves-as _ _ _ _ _ a c.in-Lost.is (loses _ _ _ _ _ a gives)) c.lost.ensures
+returns-in-Lost-clause-stands c = λ h clocked stands.
+    Holds-served _ _ h _ _ _ (LostGives c.args.self.now c.lost.new.self c.in-Lost.socket) _ c.requires.caller c.requires.formed clocked stands
+    (λ a gives. Moves-as _ _ _ _ _ _ a c.in-Lost.is (loses _ _ _ _ _ _ a gives)) c.lost.ensures
 
 pub returns-in-Publish-clause-stands : goal.returns-in-Publish-clause-stands
-returns-in-Publish-clause-stands c = λ h stands.
-    Holds-served _ _ h _ _ (PublishGives c.args.self.now c.publish.new.self c.in-Publish.channel c.in-Publish.event c.in-Publish.body c.in-Publish.except) _ c.requires.caller c.requires.formed stands
-    (λ a gives. Moves-as _ _ _ _ _ a c.in-Publish.is (publishes _ _ _ _ _ _ _ _ a gives)) c.publish.ensures
+returns-in-Publish-clause-stands c = λ h clocked stands.
+    Holds-served _ _ h _ _ _ (PublishGives c.args.self.now c.publish.new.self c.args.now c.in-Publish.channel c.in-Publish.event c.in-Publish.body c.in-Publish.except) _ c.requires.caller c.requires.formed clocked stands
+    (λ a gives. Moves-as _ _ _ _ _ _ a c.in-Publish.is (publishes _ _ _ _ _ _ _ _ _ a gives)) c.publish.ensures
 
 pub returns-in-Say-clause-stands : goal.returns-in-Say-clause-stands
-returns-in-Say-clause-stands c = λ h stands.
-    Holds-served _ _ h _ _ (SayGives c.args.self.now c.say.new.self c.in-Say.socket c.in-Say.channel c.in-Say.event c.in-Say.body) _ c.requires.caller c.requires.formed stands
-    (λ a gives. Moves-as _ _ _ _ _ a c.in-Say.is (says _ _ _ _ _ _ _ _ a gives)) c.say.ensures
+returns-in-Say-clause-stands c = λ h clocked stands.
+    Holds-served _ _ h _ _ _ (SayGives c.args.self.now c.say.new.self c.in-Say.socket c.in-Say.channel c.in-Say.event c.in-Say.body) _ c.requires.caller c.requires.formed clocked stands
+    (λ a gives. Moves-as _ _ _ _ _ _ a c.in-Say.is (says _ _ _ _ _ _ _ _ _ a gives)) c.say.ensures
 
 pub returns-in-Say-clause-kind : goal.returns-in-Say-clause-kind
 returns-in-Say-clause-kind c =
@@ -52,21 +52,21 @@ returns-in-Say-clause-kind c =
     subst P (sym c.in-Say.is) (say_kind c.args.self.now c.say.new.self c.in-Say.socket c.in-Say.channel c.in-Say.event c.in-Say.body c.in-Say.at a gives)) c.say.ensures
 
 pub returns-in-Take-clause-stands : goal.returns-in-Take-clause-stands
-returns-in-Take-clause-stands c = λ h stands.
-    Holds-moves _ _ h _ c.requires.caller c.requires.formed stands (Moves-as _ _ _ _ _ _ c.in-Take.is (takes_frames _ _ _ _ c.take.ensures))
+returns-in-Take-clause-stands c = λ h clocked stands.
+    Holds-moves _ _ h _ _ c.requires.caller c.requires.formed clocked stands (Moves-as _ _ _ _ _ _ _ c.in-Take.is (takes_frames _ _ _ _ _ c.take.ensures))
 
 pub returns-in-TakeHooks-clause-stands : goal.returns-in-TakeHooks-clause-stands
-returns-in-TakeHooks-clause-stands c = λ h stands.
-    Holds-moves _ _ h _ c.requires.caller c.requires.formed stands (Moves-as _ _ _ _ _ _ c.in-TakeHooks.is (takes_hooks _ _ _ _ _ c.take_hooks.ensures))
+returns-in-TakeHooks-clause-stands c = λ h clocked stands.
+    Holds-moves _ _ h _ _ c.requires.caller c.requires.formed clocked stands (Moves-as _ _ _ _ _ _ _ c.in-TakeHooks.is (takes_hooks _ _ _ _ _ _ c.take_hooks.ensures))
 
 pub returns-in-Names-clause-stands : goal.returns-in-Names-clause-stands
-returns-in-Names-clause-stands c = λ h stands.
-    Holds-read c.args.self.now h _ _ _ _ c.requires.caller c.requires.formed stands (Moves-as _ _ _ _ _ _ c.in-Names.is (lists_names c.args.self.now c.args.caller c.in-Names.prefix)) c.names.ensures
+returns-in-Names-clause-stands c = λ h clocked stands.
+    Holds-read c.args.self.now h _ _ _ _ _ c.requires.caller c.requires.formed clocked stands (Moves-as _ _ _ _ _ _ _ c.in-Names.is (lists_names c.args.self.now c.args.now c.args.caller c.in-Names.prefix)) c.names.ensures
 
 pub returns-in-Look-clause-stands : goal.returns-in-Look-clause-stands
-returns-in-Look-clause-stands c = λ h stands.
-    Holds-moves _ _ h _ c.requires.caller c.requires.formed stands (Moves-as _ _ _ _ _ _ c.in-Look.is (looks c.args.self.now _ _ _ _ c.look.ensures))
+returns-in-Look-clause-stands c = λ h clocked stands.
+    Holds-read c.args.self.now h _ _ _ _ _ c.requires.caller c.requires.formed clocked stands (Moves-as _ _ _ _ _ _ _ c.in-Look.is (looks c.args.self.now c.args.now c.args.caller c.in-Look.channel c.in-Look.at)) c.look.ensures
 
 pub returns-in-Users-clause-stands : goal.returns-in-Users-clause-stands
-returns-in-Users-clause-stands c = λ h stands.
-    Holds-read c.args.self.now h _ _ _ _ c.requires.caller c.requires.formed stands (Moves-as _ _ _ _ _ _ c.in-Users.is (lists_users c.args.self.now c.args.caller c.in-Users.channel)) c.users.ensures
+returns-in-Users-clause-stands c = λ h clocked stands.
+    Holds-read c.args.self.now h _ _ _ _ _ c.requires.caller c.requires.formed clocked stands (Moves-as _ _ _ _ _ _ _ c.in-Users.is (lists_users c.args.self.now c.args.now c.args.caller c.in-Users.channel)) c.users.ensures

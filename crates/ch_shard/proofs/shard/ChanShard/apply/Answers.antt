@@ -1,6 +1,8 @@
 use Rattle.std.proofs.Common.{◌∙◌, ◌++◌, ◌∷◌, [], ap, subst, sym}
 use Rattle.circular_buffer.specs.Buffer.{keep_last}
 use Rattle.ch_base.specs.Growth.{entry}
+use Rattle.ch_history.specs.Clock.{clock_with}
+use Rattle.ch_history.proofs.Push.{clock-push}
 use Rattle.ch_history.proofs.Occupancy.{occupancy_law}
 use Rattle.ch_history.proofs.Membership.{membership_law}
 use Rattle.ch_history.proofs.CacheNewcomer.{cache_newcomer_law}
@@ -15,11 +17,13 @@ returns-clause-stands c = λ h stands.
     let e = entry c.args.caller c.args.call.now c.in_ok-answer.answer in
     let P = λ (k : Kept). Stands k h in
     let before = subst P (sym c.self.view_is) stands in
-    let after = c.in_ok-answer.ensures.stands h before.parts in
+    let clocked = c.clock_with-now.ensures.clock ∙ ap (λ t. clock_with t c.args.call.now) before.clock in
+    let after = c.in_ok-answer.ensures.stands h clocked before.parts in
     record {
       legal = after.legal;
       parts = after;
       tail = c.note.ensures ∙ ap (λ t. keep_last max_tail (t ++ brief_of e ∷ [])) before.tail ∙ tail-push h e;
+      clock = clocked ∙ sym (clock-push h e);
     }
 
 pub returns-clause-occupancy : goal.returns-clause-occupancy
