@@ -8,7 +8,7 @@ use Rattle.ch_base.specs.declared.channel.ChanCall.TheVariants as chan
 use Rattle.ch_base.specs.declared.user.UserCall.TheVariants as user
 use Rattle.ch_config.specs.Config.{IsConfig}
 use Rattle.ch_config.specs.declared.config.Config.{Config}
-use Rattle.ch_history.specs.ChannelName.{begins, is_good_name, is_presence}
+use Rattle.ch_history.specs.ChannelName.{begins, is_good_name, is_presence, is_cache}
 use Rattle.ch_history.specs.Limits.{IsMoment, is_user_id}
 use Rattle.ch_history.specs.Placement.{shard_of, fnv_from, fnv_offset}
 use Rattle.ch_protocol.specs.ClientMessages.{is_subscribable}
@@ -109,18 +109,20 @@ lists_servable config prefix info =
 
 looks_servable : (config : Config) (now : ℕ) (name : List ℕ) (info : Option (List ℕ)) → IsConfig config → IsMoment now
     → AreServable config (plans.looks_at config now name info)
-looks_servable config now name info counts moment = test (is_good_name name) (plans.wants_users info && not (is_presence name)) refl
+looks_servable config now name info counts moment = test (is_good_name name) (plans.wants_users info && not (is_presence name)) (plans.wants_cache info && not (is_cache name)) refl
   where
     looks : Ask
     looks = Chan (shard_of name config.chan_shards) (chan.Look name now)
 
-    test : (good counted : Bool) → is_good_name name ≡ good → AreServable config
+    test : (good counted cached : Bool) → is_good_name name ≡ good → AreServable config
         (if not good then plans.refused 400
         else if counted then plans.refused 400
-        else plans.asks_for (looks ∷ []) (form.Channel (plans.wanted_of info name)))
-    test true true is = tt
-    test true false is = one_servable config looks ((moment, is), shard_below name config.chan_shards counts.chan_shards.0, refl)
-    test false counted is = tt
+        else if cached then plans.refused 400
+        else plans.asks_for (looks ∷ []) (form.Channel (plans.wanted_of info name) (plans.wants_cache info)))
+    test true true cached is = tt
+    test true false true is = tt
+    test true false false is = one_servable config looks ((moment, is), shard_below name config.chan_shards counts.chan_shards.0, refl)
+    test false counted cached is = tt
 
 users_servable : (config : Config) (name : List ℕ) → IsConfig config → AreServable config (plans.lists_users config name)
 users_servable config name counts = test (is_good_name name) (is_presence name) refl refl

@@ -1,9 +1,9 @@
-//! Which counts of a channel a reply tells (Pusher Channels documentation, HTTP API, "info").
+//! What a reply tells of a channel (Pusher Channels documentation, HTTP API, "info").
 ghost use Rattle.std.specs.Prelude.{◌≡◌, ◌++◌, bytes_eq, map, IfOk, OnOk};
 ghost use Rattle.std.specs.List.{list_any, slice_split};
 ghost use Rattle.std.specs.Option.{option_copied};
 ghost use Rattle.ch_requests.specs.Fields.{is_comma};
-ghost use Rattle.ch_requests.specs.Plans.{info_has, wants_users, wants_subs, wanted_of, has_info, counted};
+ghost use Rattle.ch_requests.specs.Plans.{info_has, wants_users, wants_subs, wants_cache, wanted_of, has_info, counted};
 ghost use Rattle.ch_api.specs.Telling.{counted_in};
 
 use crate::names::{is_presence, is_user_channel};
@@ -39,6 +39,13 @@ fn wants_subs(info: Option<&Text>) -> bool
     ensures { result ≡ wants_subs (option_copied info.entry) }
 {
     info_has("subscription_count", info)
+}
+
+/// Whether the latest event is asked for.
+pub(crate) fn wants_cache(info: Option<&Text>) -> bool
+    ensures { result ≡ wants_cache (option_copied info.entry) }
+{
+    info_has("cache", info)
 }
 
 /// The counts that are told of a channel: users are counted on presence channels alone, and nothing on a user's own channel.

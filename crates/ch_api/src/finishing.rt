@@ -1,11 +1,13 @@
 //! The reply to a request whose calls were made.
-ghost use Rattle.std.specs.Prelude.{◌≡◌, ◌∷◌, map, codes, nat_lt, IfOk, string_bytes};
-ghost use Rattle.ch_requests.specs.Replies.{body_of, reply_to, object_text, array_text, member_text, single_text, count_members, truth, channel_text, users_text, id_text};
+ghost use Rattle.std.specs.Prelude.{◌≡◌, ◌∷◌, ◌++◌, map, codes, nat_lt, IfOk, string_bytes};
+ghost use Rattle.std.specs.Option.{option_copied};
+ghost use Rattle.ch_requests.specs.Replies.{body_of, reply_to, object_text, array_text, member_text, single_text, count_members, when, truth, cache_text, channel_text, users_text, id_text};
 
+use crate::cached::push_cache;
 use crate::json_texts::{array_text, bytes_of, member_text, object_text, quoted, single_text};
 use crate::rows::row_members;
 use crate::told_counts::{each_counts, named_counts, push_counts};
-use ch_base::{ChanAnswer, Memory, Text};
+use ch_base::{CacheRow, ChanAnswer, Memory, Text};
 use ch_protocol::{AnswerList, Made};
 use ch_requests::{Plan, Reply, ReplyForm, Wanted};
 use std::alloc::Global;
@@ -41,7 +43,7 @@ fn body_of(alloc: Global, form: &ReplyForm, mades: &[Made]) -> Result<String, Me
             let members = row_members(alloc, *wanted, mades)?;
             channels_text(alloc, &members)
         }
-        ReplyForm::Channel(wanted) => channel_text(alloc, *wanted, mades),
+        ReplyForm::Channel { counts, cache } => channel_text(alloc, *counts, *cache, mades),
         ReplyForm::Users => users_text(alloc, mades),
     }
 }
@@ -62,24 +64,46 @@ fn batch_text(alloc: Global, values: &[String]) -> Result<String, Memory>
     single_text(alloc, "batch", batch.as_str())
 }
 
-/// Whether the channel has a subscription, and its counts.
-fn channel_text(alloc: Global, wanted: Wanted, mades: &[Made]) -> Result<String, Memory>
-    ensures { IfOk result (λ t. string_bytes t ≡ channel_text wanted mades.now) }
+/// Whether the channel has a subscription, its counts, and its latest event where that was asked for.
+fn channel_text(
+    alloc: Global,
+    wanted: Wanted,
+    cache: bool,
+    mades: &[Made],
+) -> Result<String, Memory>
+    ensures { IfOk result (λ t. string_bytes t ≡ channel_text wanted cache mades.now) }
 {
     match mades {
-        [Made::Chan(ChanAnswer::Looked { subs, users }), ..] => {
-            looked_text(alloc, wanted, *subs, *users)
-        }
+        [
+            Made::Chan(
+                ChanAnswer::Looked {
+                    subs,
+                    users,
+                    cache: row,
+                },
+            ),
+            ..
+        ] => { looked_text(alloc, wanted, *subs, *users, cache, row.as_ref()) }
         _ => object_text(alloc, &[]),
     }
 }
 
-fn looked_text(alloc: Global, wanted: Wanted, subs: u64, users: u64) -> Result<String, Memory>
-    ensures { IfOk result (λ t. string_bytes t ≡ object_text (member_text (codes "occupied") (truth (nat_lt 0 subs)) ∷ count_members wanted subs users)) }
+fn looked_text(
+    alloc: Global,
+    wanted: Wanted,
+    subs: u64,
+    users: u64,
+    cache: bool,
+    row: Option<&CacheRow>,
+) -> Result<String, Memory>
+    ensures { IfOk result (λ t. string_bytes t ≡ object_text (
+        member_text (codes "occupied") (truth (nat_lt 0 subs))
+        ∷ count_members wanted subs users ++ when cache (member_text (codes "cache") (cache_text (option_copied row.entry))))) }
 {
     let mut members = Vec::new(alloc);
     members.push(member_text(alloc, "occupied", truth(subs > 0))?)?;
     push_counts(alloc, &mut members, wanted, subs, users)?;
+    push_cache(alloc, &mut members, cache, row)?;
     object_text(alloc, &members)
 }
 

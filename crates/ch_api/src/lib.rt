@@ -6,6 +6,7 @@
 #![tactic(auto)]
 
 mod authorization;
+mod cached;
 mod counts;
 mod event_asks;
 mod events;

@@ -8,8 +8,8 @@ ghost use Rattle.ch_history.specs.Placement.{shard_of};
 ghost use Rattle.ch_protocol.specs.declared.ask.Ask.TheVariants.{Chan, User};
 ghost use Rattle.ch_requests.specs.Plans.{asks_for, lists_channels, looks_at, lists_users, terminates, text_or_empty};
 
-use crate::counts::{wanted_of, wants_users};
-use crate::names::{begins_as_presence, is_good_name, is_presence, is_user_id};
+use crate::counts::{wanted_of, wants_cache, wants_users};
+use crate::names::{begins_as_presence, is_cache, is_good_name, is_presence, is_user_id};
 use crate::refusals::refused;
 use ch_base::{ChanCall, Memory, Text, UserCall};
 use ch_config::Config;
@@ -62,7 +62,7 @@ fn names_asks(alloc: Global, shards: u64, prefix: &str) -> Result<AskList, Memor
     Ok(asks)
 }
 
-/// Whether a channel has a subscription, and its counts.
+/// Whether a channel has a subscription, its counts, and its latest event where that is asked for.
 pub(crate) fn look_at(
     alloc: Global,
     config: &Config,
@@ -79,12 +79,17 @@ pub(crate) fn look_at(
     if wants_users(info) && !is_presence(name.as_str()) {
         return refused(alloc, 400);
     }
-    let wanted = wanted_of(info, name.as_str());
+    let cache = wants_cache(info);
+    if cache && !is_cache(name.as_str()) {
+        return refused(alloc, 400);
+    }
+    let counts = wanted_of(info, name.as_str());
     let call = ChanCall::Look {
         channel: name.copy(alloc)?,
         at: now,
     };
-    ask_channel(alloc, config, name, call, ReplyForm::Channel(wanted))
+    let form = ReplyForm::Channel { counts, cache };
+    ask_channel(alloc, config, name, call, form)
 }
 
 /// The users of a presence channel.

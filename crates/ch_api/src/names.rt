@@ -1,7 +1,7 @@
 //! What the names of channels say.
-ghost use Rattle.std.specs.Prelude.{◌≡◌, codes};
+ghost use Rattle.std.specs.Prelude.{◌≡◌, codes, IsTrue};
 ghost use Rattle.std.specs.Option.{option_copied};
-ghost use Rattle.ch_history.specs.ChannelName.{begins, is_good_name, is_presence};
+ghost use Rattle.ch_history.specs.ChannelName.{begins, is_cache, is_good_name, is_presence};
 ghost use Rattle.ch_history.specs.Limits.{is_user_id};
 ghost use Rattle.ch_protocol.specs.UserChannels.{channel_user, is_user_channel};
 
@@ -29,6 +29,17 @@ pub(crate) fn is_presence(name: &str) -> bool
     ensures { result ≡ is_presence name.now }
 {
     begins_as_presence(name)
+}
+
+/// Whether the channel of this name keeps its latest event.
+pub(crate) fn is_cache(name: &str) -> bool
+    requires { IsTrue (is_good_name name.now) }
+    ensures { result ≡ is_cache name.now }
+{
+    match kind(name) {
+        Ok(kind) => kind.cached(),
+        Err(_) => unreachable!(),
+    }
 }
 
 /// Whether the text begins as the names of presence channels do.
