@@ -1,5 +1,5 @@
 -- The events that TakeHooks took from a shard's history, and those that wait there, are all events of the history.
-use Rattle.std.proofs.Common.{◌≡◌, ℕ, ◌==◌, true, false, cond, All, List, [], ◌∷◌, ◌++◌, refl, ap, sym, ◌∙◌, append_assoc, append-nil}
+use Rattle.std.proofs.Common.{◌≡◌, ℕ, ◌==◌, true, false, cond, All, List, [], ◌∷◌, ◌++◌, Option, refl, ap, sym, ◌∙◌, append_assoc, append-nil}
 use Rattle.std.specs.List.{flat_map}
 use Rattle.std.proofs.lemmas.Bool.{eq-eqb}
 use Rattle.std.proofs.lemmas.List.Concat.{flat_map-append}
@@ -7,10 +7,12 @@ use Rattle.std.proofs.lemmas.List.Elements.{All-head, All-tail}
 use Rattle.ch_base.specs.Growth.{entry}
 use Rattle.ch_base.specs.declared.channel.ChanAnswer.{ChanAnswer}
 use Rattle.ch_base.specs.declared.channel.ChanAnswer.TheVariants as answer
+use Rattle.ch_base.specs.declared.channel.CacheRow.{CacheRow}
 use Rattle.ch_base.specs.declared.channel.ChanCall.{ChanCall}
 use Rattle.ch_base.specs.declared.channel.ChanCall.TheVariants.{Join, Leave, Lost, Publish, Say, Take, TakeHooks, Names, Look, Users}
 use Rattle.ch_base.specs.declared.frame.FrameFor.{FrameFor}
 use Rattle.ch_base.specs.declared.webhook.Hook.{Hook}
+use Rattle.ch_history.specs.Cache.{latest_row}
 use Rattle.ch_history.specs.Answers.{answer_by, answer_of, is_crowded}
 use Rattle.ch_history.specs.Entries.{ChanEntry, ChanHistory}
 use Rattle.ch_history.specs.Frames.{waiting}
@@ -33,24 +35,24 @@ taken_in_both xs ys = flat_map-append (λ (e : ChanEntry). events_in e.answer) x
 
 -- ---- only TakeHooks is answered with events
 
-no_events : (xs : List Subscription) (mine : List FrameFor) (log : List Hook) (call : ChanCall) → is_take_hooks call ≡ false → events_in (answer_by xs mine log call) ≡ []
-no_events xs mine log (Join socket c member at) other =
+no_events : (xs : List Subscription) (kept : List ℕ → Option CacheRow) (mine : List FrameFor) (log : List Hook) (call : ChanCall) → is_take_hooks call ≡ false → events_in (answer_by xs kept mine log call) ≡ []
+no_events xs kept mine log (Join socket c member at) other =
     elim (is_on xs socket c) as (λ b. events_in (cond b answer.Already (cond (is_crowded c (on_channel xs c) member) answer.Crowded answer.Joined)) ≡ []) [
       | true ↦ refl
       | false ↦ elim (is_crowded c (on_channel xs c) member) as (λ b. events_in (cond b answer.Crowded answer.Joined) ≡ []) [ true ↦ refl | false ↦ refl ]
     ]
-no_events xs mine log (Leave socket c at) other = elim (is_on xs socket c) as (λ b. events_in (cond b answer.Left answer.NotOn) ≡ []) [ true ↦ refl | false ↦ refl ]
-no_events xs mine log (Say socket c event body at) other = elim (is_on xs socket c) as (λ b. events_in (cond b answer.Said answer.NotOn) ≡ []) [ true ↦ refl | false ↦ refl ]
-no_events xs mine log (TakeHooks at) other = let differs : true ≡ false = other in cc
-no_events xs mine log (Lost socket at) other = refl
-no_events xs mine log (Publish c event body except at) other = refl
-no_events xs mine log Take other = refl
-no_events xs mine log (Names prefix) other = refl
-no_events xs mine log (Look c at) other = refl
-no_events xs mine log (Users c) other = refl
+no_events xs kept mine log (Leave socket c at) other = elim (is_on xs socket c) as (λ b. events_in (cond b answer.Left answer.NotOn) ≡ []) [ true ↦ refl | false ↦ refl ]
+no_events xs kept mine log (Say socket c event body at) other = elim (is_on xs socket c) as (λ b. events_in (cond b answer.Said answer.NotOn) ≡ []) [ true ↦ refl | false ↦ refl ]
+no_events xs kept mine log (TakeHooks at) other = let differs : true ≡ false = other in cc
+no_events xs kept mine log (Lost socket at) other = refl
+no_events xs kept mine log (Publish c event body except at) other = refl
+no_events xs kept mine log Take other = refl
+no_events xs kept mine log (Names prefix) other = refl
+no_events xs kept mine log (Look c at) other = refl
+no_events xs kept mine log (Users c) other = refl
 
 silent : (h : ChanHistory) (w : ℕ) (call : ChanCall) (a : ChanAnswer) → a ≡ answer_of h w call → is_take_hooks call ≡ false → events_in a ≡ []
-silent h w call a is other = ap events_in is ∙ no_events (subscriptions h) (waiting h w) (pending h) call other
+silent h w call a is other = ap events_in is ∙ no_events (subscriptions h) (latest_row h call) (waiting h w) (pending h) call other
 
 -- no entry has events but a TakeHooks
 abbrev pub AreSilent : ChanHistory → Type 0

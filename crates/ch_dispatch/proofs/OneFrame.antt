@@ -127,7 +127,7 @@ chan_few chan.Said = inl refl
 chan_few (chan.Frames frames) = inl refl
 chan_few (chan.Hooks hooks) = inl refl
 chan_few (chan.Rows rows) = inl refl
-chan_few (chan.Looked subs users) = inl refl
+chan_few (chan.Looked subs users cache) = inl refl
 chan_few (chan.Ids ids) = inl refl
 
 user_few : (user_data : List ℕ) (answer : UserAnswer) → IsOneAtMost (frames_of (user_outcome user_data 0 answer))

@@ -6,6 +6,7 @@ use Rattle.ch_base.specs.Growth.{entry, GrowsBy}
 use Rattle.ch_base.specs.declared.frame.FrameFor.{FrameFor}
 use Rattle.ch_base.specs.declared.webhook.Hook.{Hook}
 use Rattle.ch_base.specs.declared.channel.Member.{Member}
+use Rattle.ch_base.specs.declared.channel.CacheRow.{CacheRow}
 use Rattle.ch_base.specs.declared.channel.ChanCall.{ChanCall}
 use Rattle.ch_base.specs.declared.channel.ChanCall.TheVariants as chan
 use Rattle.ch_base.specs.declared.channel.ChanAnswer.{ChanAnswer}
@@ -17,6 +18,7 @@ use Rattle.ch_base.specs.declared.user.UserAnswer.TheVariants as user_answer
 use Rattle.ch_history.specs.declared.rows.Subscription.{Subscription}
 use Rattle.ch_history.specs.declared.rows.UserSocket.{UserSocket}
 use Rattle.ch_history.specs.AnswerKinds.{IsAnswerTo, IsUserAnswerTo}
+use Rattle.ch_history.specs.Cache.{latest_row}
 use Rattle.ch_history.specs.Answers.{answer_by, is_crowded}
 use Rattle.ch_history.specs.Entries.{ChanHistory, UserHistory}
 use Rattle.ch_history.specs.Frames.{waiting}
@@ -48,17 +50,17 @@ say_fits socket c event body at true = tt
 say_fits socket c event body at false = tt
 
 -- what the definitions answer is of such a kind
-answer_fits : (xs : List Subscription) (mine : List FrameFor) (log : List Hook) (call : ChanCall) → IsAnswerTo call (answer_by xs mine log call)
-answer_fits xs mine log (chan.Join socket c member at) = join_fits socket c member at (is_on xs socket c) (is_crowded c (on_channel xs c) member)
-answer_fits xs mine log (chan.Leave socket c at) = leave_fits socket c at (is_on xs socket c)
-answer_fits xs mine log (chan.Lost socket at) = tt
-answer_fits xs mine log (chan.Publish c event body except at) = tt
-answer_fits xs mine log (chan.Say socket c event body at) = say_fits socket c event body at (is_on xs socket c)
-answer_fits xs mine log chan.Take = tt
-answer_fits xs mine log (chan.TakeHooks at) = tt
-answer_fits xs mine log (chan.Names prefix) = tt
-answer_fits xs mine log (chan.Look c at) = tt
-answer_fits xs mine log (chan.Users c) = tt
+answer_fits : (xs : List Subscription) (kept : List ℕ → Option CacheRow) (mine : List FrameFor) (log : List Hook) (call : ChanCall) → IsAnswerTo call (answer_by xs kept mine log call)
+answer_fits xs kept mine log (chan.Join socket c member at) = join_fits socket c member at (is_on xs socket c) (is_crowded c (on_channel xs c) member)
+answer_fits xs kept mine log (chan.Leave socket c at) = leave_fits socket c at (is_on xs socket c)
+answer_fits xs kept mine log (chan.Lost socket at) = tt
+answer_fits xs kept mine log (chan.Publish c event body except at) = tt
+answer_fits xs kept mine log (chan.Say socket c event body at) = say_fits socket c event body at (is_on xs socket c)
+answer_fits xs kept mine log chan.Take = tt
+answer_fits xs kept mine log (chan.TakeHooks at) = tt
+answer_fits xs kept mine log (chan.Names prefix) = tt
+answer_fits xs kept mine log (chan.Look c at) = tt
+answer_fits xs kept mine log (chan.Users c) = tt
 
 -- so is that of the last entry of a legal history
 pub answer_kind : (place : ℕ × ℕ) (caller : ℕ) (call : ChanCall) (r : Result ChanAnswer Memory) (before after : ChanHistory)
@@ -66,7 +68,7 @@ pub answer_kind : (place : ℕ × ℕ) (caller : ℕ) (call : ChanCall) (r : Res
 answer_kind place caller call (Ok a) before after grows legal =
     let h = before ++ grows.0 in
     let last = IsLegal-last h (entry caller call a) (subst IsLegal grows.2 legal.legal) in
-    subst (IsAnswerTo call) (sym last.answered) (answer_fits (subscriptions h) (waiting h caller) (pending h) call)
+    subst (IsAnswerTo call) (sym last.answered) (answer_fits (subscriptions h) (latest_row h call) (waiting h caller) (pending h) call)
 answer_kind place caller call (Err m) before after grows legal = tt
 
 -- User shards
