@@ -10,7 +10,7 @@ use std::test::Fail;
 const OTHER_APP: &str = r#"{"app_id":"1","key":"other","secret":"s"}"#;
 
 /// Configurations, lines, and what is written of them.
-const TRANSCRIPTS: [(&str, &str, &str); 20] = [
+const TRANSCRIPTS: [(&str, &str, &str); 21] = [
     // a published event reaches both sockets
     (
         BUILT_IN,
@@ -115,6 +115,36 @@ sent 1 0
 2 {"event":"pusher:connection_established","data":"{\"socket_id\":\"1.2\",\"activity_timeout\":120}"}
 2 {"event":"pusher_internal:subscription_succeeded","channel":"cache-c","data":"{}"}
 2 {"event":"e","channel":"cache-c","data":"1"}
+"#,
+    ),
+    // a cached event ends 1,800,000 ms after it was published
+    (
+        BUILT_IN,
+        r#"0 open /app/k?protocol=7
+0 say 1 {"event":"pusher:subscribe","data":{"channel":"cache-c"}}
+1 publish cache-c e "1"
+1800000 open /app/k?protocol=7
+1800000 say 2 {"event":"pusher:subscribe","data":{"channel":"cache-c"}}
+1800000 api GET /apps/1/channels/cache-c info=cache
+1800001 open /app/k?protocol=7
+1800001 say 3 {"event":"pusher:subscribe","data":{"channel":"cache-c"}}
+1800001 api GET /apps/1/channels/cache-c info=cache
+1800001 api GET /apps/1/channels/a info=cache
+"#,
+        r#"1 {"event":"pusher:connection_established","data":"{\"socket_id\":\"1.1\",\"activity_timeout\":120}"}
+1 {"event":"pusher_internal:subscription_succeeded","channel":"cache-c","data":"{}"}
+1 {"event":"pusher:cache_miss","channel":"cache-c"}
+sent 1 0
+1 {"event":"e","channel":"cache-c","data":"1"}
+2 {"event":"pusher:connection_established","data":"{\"socket_id\":\"1.2\",\"activity_timeout\":120}"}
+2 {"event":"pusher_internal:subscription_succeeded","channel":"cache-c","data":"{}"}
+2 {"event":"e","channel":"cache-c","data":"1"}
+http 200 {"occupied":true,"cache":{"data":"1","ttl":1}}
+3 {"event":"pusher:connection_established","data":"{\"socket_id\":\"1.3\",\"activity_timeout\":120}"}
+3 {"event":"pusher_internal:subscription_succeeded","channel":"cache-c","data":"{}"}
+3 {"event":"pusher:cache_miss","channel":"cache-c"}
+http 200 {"occupied":true,"cache":null}
+http 400 {"error":"bad request"}
 "#,
     ),
     // ten client events are accepted in a second

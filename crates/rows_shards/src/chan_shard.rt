@@ -133,12 +133,13 @@ fn frame_word(frame: &Frame) -> &'static str {
         Frame::Succeeded { .. } => "succeeded ",
         Frame::Present { .. } => "present ",
         Frame::Event { .. } => "event ",
+        Frame::Miss { .. } => "miss ",
         _ => "another ",
     }
 }
 
 /// Adds an answer, in words.
-fn push_answer(alloc: Global, words: &mut String, answer: &ChanAnswer) -> Result<(), Fail> {
+pub(crate) fn push_answer(alloc: Global, words: &mut String, answer: &ChanAnswer) -> Result<(), Fail> {
     match answer {
         ChanAnswer::Frames(frames) => {
             for item in frames.as_slice() {
@@ -197,7 +198,7 @@ fn calls_are_answered(rt: HostRuntime) -> Result<(), Fail> {
         ),
         (
             b"JMPSKNULXTH",
-            "Joined; Joined; Sent { subs: 1, users: 0 }; Said; Looked { subs: 1, users: 0 }; a=1,0 presence-r=1,1 ; u; Left; Gone { count: 1 }; succeeded present event ; occupied occupied added client removed vacated vacated ; JJPSKNULXTH 0",
+            "Joined; Joined; Sent { subs: 1, users: 0 }; Said; Looked { subs: 1, users: 0, cache: None }; a=1,0 presence-r=1,1 ; u; Left; Gone { count: 1 }; succeeded present event ; occupied occupied added client removed vacated vacated ; JJPSKNULXTH 0",
         ),
     ];
     for (letters, want) in table {

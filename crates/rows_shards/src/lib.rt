@@ -3,6 +3,8 @@
 #![tactic(auto)]
 
 #[cfg(test)]
+mod cached_events;
+#[cfg(test)]
 mod chan_shard;
 #[cfg(test)]
 mod user_shard;
