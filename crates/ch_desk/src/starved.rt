@@ -1,4 +1,4 @@
-ghost use Rattle.std.specs.Prelude.{◌≡◌, ◌↔◌, IsTrue, Contains, IfOk};
+ghost use Rattle.std.specs.Prelude.{◌≡◌, ◌<◌, ◌↔◌, IsTrue, Contains, IfOk};
 ghost use Rattle.ch_base.specs.Growth.{GrowsBy};
 ghost use Rattle.ch_desk.specs.Starving.{IsRefused, next_number};
 ghost use Rattle.ch_desk.specs.Views.{MayAsk, StaysButChan, StaysButUser};
@@ -60,7 +60,7 @@ impl<D> Starved<D> {
         ensures same { self.new ≡ record self.old { desk = self.new.desk; number = next_number self.old.number } }
     {
         if self.refuses_next() {
-            let _shards = self.desk.chan_shards();
+            knows_chan::<R, D>(&self.desk, shard);
             return Err(Memory);
         }
         self.desk.chan(rt, shard, call)
@@ -79,7 +79,7 @@ impl<D> Starved<D> {
         ensures same { self.new ≡ record self.old { desk = self.new.desk; number = next_number self.old.number } }
     {
         if self.refuses_next() {
-            let _shards = self.desk.user_shards();
+            knows_user::<R, D>(&self.desk, shard);
             return Err(Memory);
         }
         self.desk.user(rt, shard, call)
@@ -108,4 +108,20 @@ impl<R, D: Desk<R>> Desk<R> for Starved<D> {
     fn user(&mut self, rt: &R, shard: u64, call: &UserCall) -> Result<UserAnswer, Memory> {
         Starved::user(self, rt, shard, call)
     }
+}
+
+/// What the caller of the desk knows of a channel shard is legal.
+fn knows_chan<R, D: Desk<R>>(desk: &D, shard: u64)
+    requires { shard < (D.view desk.now).chan_shards }
+    ensures { IsLegalAt (shard, (D.view desk.now).chan_shards) ((D.view desk.now).chans shard) }
+{
+    let _shards = desk.chan_shards();
+}
+
+/// What the caller of the desk knows of a user shard is legal.
+fn knows_user<R, D: Desk<R>>(desk: &D, shard: u64)
+    requires { shard < (D.view desk.now).user_shards }
+    ensures { IsUserLegalAt (shard, (D.view desk.now).user_shards) ((D.view desk.now).users shard) }
+{
+    let _shards = desk.user_shards();
 }
