@@ -1,24 +1,20 @@
 -- The losses of several calls, one after another.
-use Rattle.std.proofs.Common.{◌≡◌, ℕ, zero, suc, ◌+◌, ◌-◌, ◌<◌, ◌≤◌, ◌⊎◌, Bool, true, false, cond, eqb, List, [], ◌∷◌, ◌++◌, take, drop, map, filter, length, length-append, All, ap, sym, subst, refl, ◌∙◌, append_assoc, append-nil, inl, inr, arith}
+use Rattle.std.proofs.Common.{◌≡◌, ℕ, zero, suc, ◌+◌, ◌-◌, Bool, true, false, cond, List, [], ◌∷◌, ◌++◌, take, drop, map, length, length-append, ap, sym, subst, refl, ◌∙◌, append-nil, inl, inr, arith}
 use Rattle.std.specs.Prelude.{⊤, nat_lt, Result, Ok, Err, OnOk, IsOk}
-use Rattle.std.proofs.lemmas.Bool.{cases_eq, cases_lt, cond-true, cond-false, eq-eqb, ne_eqb, lt-ltb, le-ltb, false≢true}
+use Rattle.std.proofs.lemmas.Bool.{cases_lt, cond-true, cond-false, lt-ltb, le-ltb, false≢true}
 use Rattle.std.proofs.lemmas.List.{map-append, take-append-drop, take-map}
 use Rattle.ch_base.specs.declared.memory.Memory.{Memory}
-use Rattle.ch_desk.specs.OwnEntries.{Makes, entries_on_chan, entries_on_user, entry_on_chan, entry_on_user}
 use Rattle.ch_desk.specs.Views.{DeskView}
 use Rattle.ch_dispatch.specs.Losses.{AreAllLosses, MakesLosses}
 use Rattle.ch_protocol.specs.Asks.{Asked, asks_of}
-use Rattle.ch_protocol.specs.Settling.{SettledAsk, is_on_chan, is_on_user}
+use Rattle.ch_protocol.specs.Settling.{SettledAsk}
 use Rattle.ch_protocol.specs.declared.ask.Ask.{Ask}
-use Rattle.ch_protocol.specs.declared.ask.Ask.TheVariants.{Chan, User}
-use Rattle.ch_protocol.specs.declared.ask.Made.{Made}
-use Rattle.ch_protocol.specs.declared.ask.Made.TheVariants as made
 use Rattle.ch_session.specs.Kept.{Kept, IsSession, losses_left}
 use Rattle.ch_session.specs.Losses.{losses_from, loss_at}
 use Rattle.ch_session.specs.Told.{uses_place}
 use Rattle.ch_live.specs.Connections.{Connected}
 use Rattle.ch_live.specs.LossLaws.{LossesGoOn, LossesEnd}
-use Rattle.ch_live.specs.LossRuns.{LossCall, LosesOver, EndsOk, at_moment, losses_in}
+use Rattle.ch_live.specs.LossRuns.{LosesOver, at_moment, losses_in}
 use Rattle.ch_live.specs.Losses.{Loses}
 use Rattle.ch_live.specs.declared.peer.Peer.{Peer}
 use Rattle.ch_live.specs.declared.peer.Peer.TheVariants.{Open, Refused}

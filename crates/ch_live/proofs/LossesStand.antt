@@ -1,5 +1,5 @@
 -- Each loss stands on its shard, after everything that was known of it before.
-use Rattle.std.proofs.Common.{◌≡◌, ℕ, zero, suc, ◌+◌, ◌-◌, ◌<◌, ◌≤◌, ◌⊎◌, Bool, true, false, cond, eqb, List, [], ◌∷◌, ◌++◌, take, drop, map, filter, length, All, ap, sym, subst, refl, ◌∙◌, append_assoc, append-nil, inl, inr, arith}
+use Rattle.std.proofs.Common.{◌≡◌, ℕ, zero, suc, ◌+◌, ◌-◌, ◌<◌, ◌≤◌, ◌⊎◌, Bool, true, false, cond, eqb, List, [], ◌∷◌, ◌++◌, take, drop, map, filter, length, All, ap, sym, subst, refl, ◌∙◌, append_assoc, inl, inr, arith}
 use Rattle.std.specs.Prelude.{nat_lt}
 use Rattle.std.proofs.lemmas.Bool.{cases_eq, cond-true, cond-false, eq-eqb, lt-ltb, le-ltb, false≢true}
 use Rattle.std.proofs.lemmas.List.{take-append-drop}
@@ -12,8 +12,8 @@ use Rattle.ch_base.specs.declared.entry.Entry.{Entry}
 use Rattle.ch_base.specs.declared.user.UserAnswer.{UserAnswer}
 use Rattle.ch_base.specs.declared.user.UserCall.{UserCall}
 use Rattle.ch_base.specs.declared.user.UserCall.TheVariants as user
-use Rattle.ch_desk.specs.OwnEntries.{Gains, IsAnswered, Makes, entries_by, entries_on_chan, entries_on_user, entry_on_chan, entry_on_user, was_made}
-use Rattle.ch_desk.specs.Views.{DeskView, IsSameDesk}
+use Rattle.ch_desk.specs.OwnEntries.{Gains, IsAnswered, Makes, entries_on_chan, entries_on_user, entry_on_chan, entry_on_user, was_made}
+use Rattle.ch_desk.specs.Views.{DeskView}
 use Rattle.ch_protocol.specs.Asks.{Asked, ComesOf, asks_of}
 use Rattle.ch_protocol.specs.Settling.{SettledAsk, uses_chan, uses_user}
 use Rattle.ch_protocol.specs.declared.ask.Ask.{Ask}
@@ -24,7 +24,7 @@ use Rattle.ch_session.specs.Kept.{Kept, IsSession, losses_left}
 use Rattle.ch_session.specs.Losses.{losses_from, loss_at}
 use Rattle.ch_session.specs.Told.{uses_place}
 use Rattle.ch_live.specs.Connections.{Connected}
-use Rattle.ch_live.specs.LossLaws.{LossesStand, Ended, IsLostOnChan, IsLostOnUser}
+use Rattle.ch_live.specs.LossLaws.{LossesStand}
 use Rattle.ch_live.specs.LossRuns.{LossCall, LosesOver, EndsOk, GrewTo, IsLater, StandsAfter, at_moment}
 use Rattle.ch_live.specs.declared.peer.Peer.{Peer}
 use Rattle.ch_live.specs.declared.peer.Peer.TheVariants.{Open}

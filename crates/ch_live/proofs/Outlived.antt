@@ -1,5 +1,5 @@
 -- Nothing on a shard outlives its socket.
-use Rattle.std.proofs.Common.{◌≡◌, ◌≢◌, ℕ, ◌<◌, ◌⊎◌, Bool, true, false, cond, eqb, List, [], ◌∷◌, ◌++◌, length, All, ap, sym, subst, refl, ◌∙◌, append_assoc, inl, inr, arith}
+use Rattle.std.proofs.Common.{◌≡◌, ◌≢◌, ℕ, Bool, true, false, cond, List, [], ◌∷◌, ◌++◌, All, ap, sym, subst, refl, ◌∙◌, append_assoc, inl, inr, arith}
 use Rattle.std.specs.Prelude.{Option, Some, None, ◌&&◌, ◌||◌}
 use Rattle.std.specs.List.{list_any, cons_option}
 use Rattle.std.proofs.lemmas.Bool.{eq-eqb, false≢true}
@@ -14,19 +14,16 @@ use Rattle.ch_base.specs.declared.user.UserAnswer.{UserAnswer}
 use Rattle.ch_base.specs.declared.user.UserAnswer.TheVariants as user_answer
 use Rattle.ch_base.specs.declared.user.UserCall.{UserCall}
 use Rattle.ch_base.specs.declared.user.UserCall.TheVariants as user
-use Rattle.ch_desk.specs.Views.{DeskView}
-use Rattle.ch_history.specs.Entries.{ChanEntry, ChanHistory, UserEntry, UserHistory}
+use Rattle.ch_history.specs.Entries.{UserEntry, UserHistory}
 use Rattle.ch_history.specs.OpenRows.{open_rows, unsettled}
 use Rattle.ch_history.specs.SignIns.{begins_watch, is_signed_in, is_watching, sign_ins, sign_settles, signs_in, watch_settles, watches}
 use Rattle.ch_history.specs.Subscriptions.{is_joined, opened, settles, subscriptions}
-use Rattle.ch_history.specs.declared.rows.Subscription.{Subscription}
 use Rattle.ch_history.specs.declared.rows.UserSocket.{UserSocket}
 use Rattle.ch_protocol.specs.Settling.{SettledAsk, holds, is_on_chan, is_on_user, uses_chan, uses_user}
 use Rattle.ch_protocol.specs.declared.ask.Ask.TheVariants.{Chan, User}
-use Rattle.ch_protocol.specs.declared.ask.Made.{Made}
 use Rattle.ch_protocol.specs.declared.ask.Made.TheVariants as made
 use Rattle.ch_live.specs.LossLaws.{Ended, IsAloneWithNumber, IsLostOnChan, IsLostOnUser, NothingOutlives, OpensFor, SignsFor, WasSettled}
-use Rattle.ch_live.specs.LossRuns.{GrewTo, IsLater, StandsAfter}
+use Rattle.ch_live.specs.LossRuns.{IsLater}
 use Rattle.ch_live.proofs.LossesOnce.{decide}
 use Rattle.ch_live.proofs.LossesStand.{later_over, losses_stand}
 

@@ -1,5 +1,5 @@
 -- The law of losses: no subscription, sign-in or watch outlives its socket, whatever memory was refused on the way.
-use Rattle.std.specs.Prelude.{◌≡◌, ◌≢◌, ◌⊎◌, ◌≤◌, ◌<◌, ◌+◌, ℕ, true, List, ◌++◌, length, map, take, All, Contains, Option, Some}
+use Rattle.std.specs.Prelude.{◌≡◌, ◌≢◌, ◌⊎◌, ◌≤◌, ◌<◌, ◌+◌, ℕ, true, List, ◌++◌, length, map, take, All, Contains, Some}
 use Rattle.ch_base.specs.Growth.{entry}
 use Rattle.ch_base.specs.declared.channel.ChanAnswer.{ChanAnswer}
 use Rattle.ch_base.specs.declared.channel.ChanCall.TheVariants as chan
@@ -20,8 +20,7 @@ use Rattle.ch_protocol.specs.declared.ask.Made.{Made}
 use Rattle.ch_protocol.specs.declared.ask.Made.TheVariants as made
 use Rattle.ch_session.specs.Kept.{Kept, IsSession, losses_left}
 use Rattle.ch_live.specs.Connections.{Connected}
-use Rattle.ch_live.specs.LossRuns.{LossCall, LosesOver, EndsOk, GrewTo, StandsAfter, at_moment, losses_in}
-use Rattle.ch_live.specs.Losses.{MayLose}
+use Rattle.ch_live.specs.LossRuns.{LossCall, LosesOver, EndsOk, StandsAfter, at_moment, losses_in}
 use Rattle.ch_live.specs.declared.peer.Peer.{Peer}
 use Rattle.ch_live.specs.declared.peer.Peer.TheVariants.{Open}
 
