@@ -5,3 +5,4 @@ pub mod UserAlone
 pub mod Bench
 pub mod AloneCalls
 pub mod Laws
+pub mod Starving

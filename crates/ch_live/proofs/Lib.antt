@@ -5,3 +5,7 @@ pub mod Listenings
 pub mod Turning
 pub mod Losable
 pub mod TurnLaws
+pub mod LossRuns
+pub mod LossesOnce
+pub mod LossesStand
+pub mod Outlived

@@ -7,4 +7,6 @@ pub mod Turns
 pub mod Sent
 pub mod Listening
 pub mod Losses
+pub mod LossRuns
+pub mod LossLaws
 pub mod Laws

@@ -1,3 +1,4 @@
+ghost use Rattle.ch_live.specs.LossLaws.{LossesGoOn, LossesEnd, LossesAreOnce, LossesStand, NothingOutlives};
 ghost use Rattle.ch_live.specs.Laws.{DirectFramesWait, FramesAreSent, MessagesAreHeard, TurnsMove, IdleTurns, MarksEnd};
 
 /// The frame by which a socket is told what its message comes to waits after the turn.
@@ -23,4 +24,16 @@ pub fn idle_turns()
 /// ping wasn't answered with 4201.
 pub fn marks_end()
     ensures { MarksEnd }
+{}
+
+/// Over any number of calls that make the losses of an ended session at one desk, each goes on where the one
+/// before it stopped, whatever memory was refused: a loss is made once on each shard that the session uses,
+/// in their order. Where the last call answers Ok all are made, and each stands after everything that the
+/// socket joined, signed in to or watched there. So no subscription, sign-in or watch outlives its socket.
+pub fn no_loss_is_left_out()
+    ensures order { LossesGoOn }
+    ensures all { LossesEnd }
+    ensures once { LossesAreOnce }
+    ensures stand { LossesStand }
+    ensures ended { NothingOutlives }
 {}

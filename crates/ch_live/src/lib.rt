@@ -18,7 +18,7 @@ mod turn;
 
 pub use backlog::Backlog;
 pub use connection::Connection;
-pub use laws::{direct_frames_wait, idle_turns, marks_end, turns_go_on};
+pub use laws::{direct_frames_wait, idle_turns, marks_end, no_loss_is_left_out, turns_go_on};
 pub use live::{Live, Unlive};
 pub use peer::Peer;
 pub use turn::{Delivered, End, Farewell, Turn};
