@@ -4,10 +4,11 @@ ghost use Rattle.std.specs.Option.{option_copied};
 ghost use Rattle.ch_requests.specs.Replies.{body_of, reply_to, object_text, array_text, member_text, single_text, count_members, when, truth, cache_text, channel_text, users_text, id_text};
 
 use crate::cached::push_cache;
-use crate::json_texts::{array_text, bytes_of, member_text, object_text, quoted, single_text};
+use crate::json_texts::{array_text, bytes_of, member_text, object_text, single_text};
 use crate::rows::row_members;
 use crate::told_counts::{each_counts, named_counts, push_counts};
 use ch_base::{CacheRow, ChanAnswer, Memory, Text};
+use ch_json::quoted;
 use ch_protocol::{AnswerList, Made};
 use ch_requests::{Plan, Reply, ReplyForm, Wanted};
 use std::alloc::Global;

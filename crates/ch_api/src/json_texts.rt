@@ -1,31 +1,10 @@
 //! JSON texts (RFC 8259).
 ghost use Rattle.std.specs.Prelude.{◌≡◌, IfOk, map, string_bytes};
-ghost use Rattle.ch_base.specs.Escape.{escaped};
-ghost use Rattle.ch_protocol.specs.Events.{quoted};
 ghost use Rattle.ch_requests.specs.Replies.{object_text, array_text, member_text, single_text};
 
-use ch_base::{Bytes, Memory, Text};
-use ch_json::escape_into;
+use ch_base::{Bytes, Memory};
+use ch_json::quoted;
 use std::alloc::Global;
-
-/// The string of a text (section 7).
-#[tactic(auto, unfolding(ch_protocol::specs::Events::quoted))]
-pub(crate) fn quoted(alloc: Global, text: &str) -> Result<String, Memory>
-    ensures { IfOk result (λ t. string_bytes t ≡ quoted text.now) }
-{
-    let inner = escaped(alloc, text)?;
-    let inner = inner.as_str();
-    let text = format!(in alloc; "\"{inner}\"")?;
-    Ok(text)
-}
-
-fn escaped(alloc: Global, text: &str) -> Result<Text, Memory>
-    ensures { IfOk result (λ t. t ≡ escaped text.now) }
-{
-    let mut out = Text::new(alloc);
-    escape_into(&mut out, text)?;
-    Ok(out)
-}
 
 /// The object of members (section 4).
 pub(crate) fn object_text(alloc: Global, members: &[String]) -> Result<String, Memory>

@@ -3,8 +3,9 @@ ghost use Rattle.std.specs.Prelude.{◌≡◌, IfOk};
 ghost use Rattle.ch_requests.specs.Plans.{refused};
 ghost use Rattle.ch_requests.specs.Replies.{refusal, error_word, reply_text};
 
-use crate::json_texts::{bytes_of, quoted, single_text};
+use crate::json_texts::{bytes_of, single_text};
 use ch_base::Memory;
+use ch_json::quoted;
 use ch_requests::{Planned, Reply};
 use std::alloc::Global;
 

@@ -1,8 +1,8 @@
 ghost use Rattle.std.specs.Prelude.{◌≡◌, IfOk, string_bytes};
 ghost use Rattle.ch_webhooks.specs.Events.{of_channel, of_member, is_string, data_text, socket_id, sender_text, of_client, event_text};
 
-use crate::strings::quoted;
 use ch_base::{Hook, Memory, Text};
+use ch_json::quoted;
 use std::alloc::Global;
 
 /// The text of a webhook event, of a server that started at the second `start`.

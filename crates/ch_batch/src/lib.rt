@@ -19,7 +19,6 @@ mod limits;
 mod making;
 mod merging;
 mod step;
-mod strings;
 
 pub use batcher::Batcher;
 pub use ch_webhooks::{BATCH_EVENTS, Batch, GREATEST_NUMBER, Sender, Waiting};

@@ -3,12 +3,12 @@ use Rattle.std.proofs.Common.{◌≡◌, inl, inr, ℕ, suc, ◌+◌, ◌-◌, �
 use Rattle.ch_base.specs.Grammar.{Byte, ◌then◌}
 use Rattle.ch_base.specs.JsonTree.{Span, Tree, plain, string, object, Members, no_members, member}
 use Rattle.ch_base.specs.JsonText.{Blanks, Value, MoreMembers, SpellsWithin, Unescapes}
+use Rattle.ch_base.specs.Escape.{quoted}
 use Rattle.ch_json.specs.Named.{Named}
 use Rattle.ch_json.specs.Parts.{part}
 use Rattle.ch_json.proofs.Alone.{IsValueBefore, value_alone}
 use Rattle.ch_json.proofs.Lists.{drop_front, take_front}
 use Rattle.ch_json.proofs.OneText.{one_text}
-use Rattle.ch_protocol.specs.Events.{quoted}
 use Rattle.ch_protocol.specs.ObjectMembers.{IsObjectText, HasString}
 use Rattle.ch_frames.proofs.QuotedStrings.{string_before, quoted_unescapes}
 

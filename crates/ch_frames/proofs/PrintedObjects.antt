@@ -3,11 +3,11 @@ use Rattle.std.proofs.Common.{◌≡◌, ℕ, ◌<◌, ◌^◌, List, [], ◌∷
 use Rattle.std.specs.Prelude.{None, codes}
 use Rattle.std.specs.Fmt.{decimal}
 use Rattle.std.specs.Cmp.Lexicographic.{other_text}
-use Rattle.ch_base.specs.Escape.{escaped_byte}
+use Rattle.ch_base.specs.Escape.{escaped_byte, quoted}
 use Rattle.ch_base.specs.declared.frame.Frame.{Frame}
 use Rattle.ch_base.specs.declared.frame.Frame.TheVariants.{Opened, Error, Ping, Pong, Succeeded, Present, Added, Removed, Event, Miss, SignedIn, Watch, Kill}
 use Rattle.ch_protocol.specs.ErrorTexts.{error_text}
-use Rattle.ch_protocol.specs.Events.{quoted, connection_event, channel_event, member_event, bare_event}
+use Rattle.ch_protocol.specs.Events.{connection_event, channel_event, member_event, bare_event}
 use Rattle.ch_protocol.specs.PresenceData.{roster, arrival, departure}
 use Rattle.ch_protocol.specs.Printed.{printed, greeting, presence_word, change}
 use Rattle.ch_frames.specs.PrintedFrames.{event_name, IsPrintable, IsEventObject}

@@ -5,9 +5,8 @@ use Rattle.std.specs.Char.{digit_char, encode_utf8}
 use Rattle.std.proofs.lemmas.Bool.{and_parts}
 use Rattle.std.proofs.lemmas.Bool.Decides.{nat_tests}
 use Rattle.std.proofs.lemmas.Str.{encode_ascii}
-use Rattle.ch_base.specs.Escape.{escape_letter, escaped_byte, escaped}
+use Rattle.ch_base.specs.Escape.{escape_letter, escaped_byte, escaped, quoted}
 use Rattle.ch_base.specs.JsonText.{is_hex, is_unescaped, is_short, Char, byte, short, unit, spelling, is_char, Chars, String, hex_value, short_value, meaning, Unescapes}
-use Rattle.ch_protocol.specs.Events.{quoted}
 
 -- ---- one byte
 

@@ -3,8 +3,8 @@ ghost use Rattle.std.specs.Prelude.{◌≡◌, IfOk, string_bytes, codes};
 ghost use Rattle.std.specs.List.{join_by};
 ghost use Rattle.ch_protocol.specs.PresenceData.{id_of, info_of, roster, arrival, departure};
 
-use crate::events::quoted;
 use ch_base::{Member, Memory};
+use ch_json::quoted;
 use std::alloc::Global;
 
 /// All members: their ids, their infos by id, and how many they are.

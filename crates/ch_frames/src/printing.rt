@@ -2,9 +2,10 @@ ghost use Rattle.std.specs.Prelude.{◌≡◌, IfOk, string_bytes};
 ghost use Rattle.ch_protocol.specs.Printed.{greeting, opened, error, subscribed, added, removed, event_on, signed_in, presence_word, change, watch, printed};
 
 use crate::error_texts::error_text;
-use crate::events::{bare_event, channel_event, connection_event, member_event, quoted};
+use crate::events::{bare_event, channel_event, connection_event, member_event};
 use crate::presence::{arrival, departure, roster};
 use ch_base::{Frame, Member, Memory, Text};
+use ch_json::quoted;
 use std::alloc::Global;
 
 /// The error after which a connection is closed as unauthorized.

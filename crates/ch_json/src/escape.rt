@@ -1,9 +1,29 @@
 //! The escaping of strings.
-ghost use Rattle.std.specs.Prelude.{◌≡◌, ◌++◌, length, take, OnOk, OnErr, true, [], ◌∷◌, ◌<◌};
+ghost use Rattle.std.specs.Prelude.{◌≡◌, ◌++◌, length, take, IfOk, OnOk, OnErr, string_bytes, true, [], ◌∷◌, ◌<◌};
 ghost use Rattle.std.specs.Char.{digit_char};
-ghost use Rattle.ch_base.specs.Escape.{escaped, escaped_byte, escape_letter, needs_escape};
+ghost use Rattle.ch_base.specs.Escape.{escaped, escaped_byte, escape_letter, needs_escape, quoted};
 
 use ch_base::{Memory, Text};
+use std::alloc::Global;
+
+/// The JSON string of a text (RFC 8259, section 7).
+#[tactic(auto, unfolding(ch_base::specs::Escape::quoted))]
+pub fn quoted(alloc: Global, text: &str) -> Result<String, Memory>
+    ensures { IfOk result (λ t. string_bytes t ≡ quoted text.now) }
+{
+    let inner = escaped(alloc, text)?;
+    let inner = inner.as_str();
+    let text = format!(in alloc; "\"{inner}\"")?;
+    Ok(text)
+}
+
+fn escaped(alloc: Global, text: &str) -> Result<Text, Memory>
+    ensures { IfOk result (λ t. t ≡ escaped text.now) }
+{
+    let mut out = Text::new(alloc);
+    escape_into(&mut out, text)?;
+    Ok(out)
+}
 
 /// Adds the escaped text, without quotes. Without memory nothing changes.
 pub fn escape_into(out: &mut Text, text: &str) -> Result<(), Memory>

@@ -23,7 +23,7 @@ mod unescape_string;
 
 pub use doc::Doc;
 pub use error::JsonError;
-pub use escape::escape_into;
+pub use escape::{escape_into, quoted};
 pub use laws::{most_levels, one_list, one_text, one_tree, value_alone};
 pub use node::{Form, Found, Node};
 pub use parse::read;

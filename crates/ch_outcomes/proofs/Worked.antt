@@ -7,9 +7,8 @@ use Rattle.std.specs.Fmt.{digits}
 use Rattle.std.specs.Str.Lossy.{utf8_lossy, utf8_valid_len}
 use Rattle.form_urlencoded.specs.Form.{raw_pairs, split}
 use Rattle.percent_encoding.specs.Percent.{percent_decode}
-use Rattle.ch_base.specs.Escape.{escaped_byte}
+use Rattle.ch_base.specs.Escape.{escaped_byte, quoted}
 use Rattle.ch_config.specs.Config.{built_in}
-use Rattle.ch_protocol.specs.Events.{quoted}
 use Rattle.ch_protocol.specs.Readings.{Reading}
 use Rattle.ch_protocol.specs.declared.client_message.ClientMessage.TheVariants.{Ping}
 use Rattle.ch_requests.specs.declared.request.Look.TheVariants.{Need}

@@ -1,10 +1,6 @@
 -- Events as JSON objects (Pusher Channels protocol, "Events").
 use Rattle.std.specs.Prelude.{ℕ, List, ◌++◌, codes}
-use Rattle.ch_base.specs.Escape.{escaped}
-
--- the JSON string of a text (RFC 8259, section 7)
-unfoldable pub quoted : List ℕ → List ℕ
-quoted text = codes "\"" ++ escaped text ++ codes "\""
+use Rattle.ch_base.specs.Escape.{quoted}
 
 -- an event for the connection itself; its body, which the member `data` has, is a JSON text
 abbrev pub connection_event : List ℕ → List ℕ → List ℕ

@@ -3,7 +3,7 @@ use Rattle.std.specs.Prelude.{ℕ, List, ◌++◌, codes, length}
 use Rattle.std.specs.List.{join_by}
 use Rattle.std.specs.Fmt.{decimal}
 use Rattle.ch_base.specs.declared.channel.Member.{Member}
-use Rattle.ch_protocol.specs.Events.{quoted}
+use Rattle.ch_base.specs.Escape.{quoted}
 
 -- a member's user id
 abbrev pub id_of : Member → List ℕ

@@ -5,8 +5,9 @@ use Rattle.std.specs.Fmt.{decimal}
 use Rattle.ch_base.specs.declared.channel.Member.{Member}
 use Rattle.ch_base.specs.declared.frame.Frame.{Frame}
 use Rattle.ch_base.specs.declared.frame.Frame.TheVariants.{Opened, Error, Ping, Pong, Succeeded, Present, Added, Removed, Event, Miss, SignedIn, Watch, Kill}
+use Rattle.ch_base.specs.Escape.{quoted}
 use Rattle.ch_protocol.specs.ErrorTexts.{error_text}
-use Rattle.ch_protocol.specs.Events.{quoted, connection_event, channel_event, member_event, bare_event}
+use Rattle.ch_protocol.specs.Events.{connection_event, channel_event, member_event, bare_event}
 use Rattle.ch_protocol.specs.PresenceData.{roster, arrival, departure}
 
 -- ---- on the connection ("Connection events", "Error codes", "Ping and pong messages")

@@ -5,8 +5,7 @@ use Rattle.hex.specs.Hex.{encode_with}
 use Rattle.httparse.specs.Grammar.{trim_ows}
 use Rattle.md5.specs.Md5 as md
 use Rattle.sha2.specs.Sha256.{sha256, digest_bytes, hash_after, compress, rounds, schedule, first_words}
-use Rattle.ch_base.specs.Escape.{escaped_byte}
-use Rattle.ch_protocol.specs.Events.{quoted}
+use Rattle.ch_base.specs.Escape.{escaped_byte, quoted}
 use Rattle.ch_sig.specs.Hmac.{hmac}
 use Rattle.ch_requests.specs.AuthorizationExamples.{AuthorizationExamples}
 use Rattle.ch_requests.specs.Examples.{Routes, Looks, Bodies}

@@ -5,8 +5,7 @@ use Rattle.base64.specs.Decode.{groups_error, groups_bytes, scan_steps}
 use Rattle.base64.specs.Rfc4648.{encode_symbols}
 use Rattle.httparse.specs.Grammar.{trim_ows}
 use Rattle.sha1.specs.Sha1.{first_words, schedule, rounds, compress, hash_after, digest_bytes, sha1}
-use Rattle.ch_base.specs.Escape.{escaped_byte}
-use Rattle.ch_protocol.specs.Events.{quoted}
+use Rattle.ch_base.specs.Escape.{escaped_byte, quoted}
 use Rattle.ch_requests.specs.Examples.{Handshakes}
 
 pub handshakes : Handshakes

@@ -5,8 +5,8 @@ use Rattle.std.specs.Fmt.{decimal}
 use Rattle.ch_base.specs.declared.channel.CacheRow.{CacheRow}
 use Rattle.ch_base.specs.declared.channel.ChanAnswer.TheVariants.{Sent, Rows, Looked, Ids}
 use Rattle.ch_base.specs.declared.channel.NameRow.{NameRow}
+use Rattle.ch_base.specs.Escape.{quoted}
 use Rattle.ch_sig.specs.Parameters.{is_before}
-use Rattle.ch_protocol.specs.Events.{quoted}
 use Rattle.ch_protocol.specs.declared.ask.Made.{Made}
 use Rattle.ch_protocol.specs.declared.ask.Made.TheVariants.{Chan}
 use Rattle.ch_requests.specs.declared.plan.Counted.{Counted}

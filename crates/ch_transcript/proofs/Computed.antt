@@ -4,9 +4,8 @@ use Rattle.std.specs.Str.{is_utf8, chars}
 use Rattle.std.specs.Char.{encode_utf8}
 use Rattle.std.specs.Fmt.{digits}
 use Rattle.hex.specs.Hex.{decode_pairs}
-use Rattle.ch_base.specs.Escape.{escaped_byte}
+use Rattle.ch_base.specs.Escape.{escaped_byte, quoted}
 use Rattle.ch_protocol.specs.ErrorTexts.{error_text}
-use Rattle.ch_protocol.specs.Events.{quoted}
 use Rattle.ch_transcript.specs.Examples.{Lines, OnePublish, Excepted}
 use Rattle.ch_transcript.specs.RoundExamples.{Killed, Ticks, Others}
 

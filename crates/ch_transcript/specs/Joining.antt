@@ -1,8 +1,8 @@
 -- The messages that a `join` and a `signin` stand for (Pusher Channels protocol, `pusher:subscribe` and `pusher:signin`).
 use Rattle.std.specs.Prelude.{ℕ, List, [], ◌++◌, codes, Option, Some, None, if◌then◌else◌}
+use Rattle.ch_base.specs.Escape.{quoted}
 use Rattle.ch_config.specs.declared.config.Config.{Config}
 use Rattle.ch_history.specs.ChannelName.{kind_of, needs_auth}
-use Rattle.ch_protocol.specs.Events.{quoted}
 use Rattle.ch_protocol.specs.Sessions.{channel_auth, user_auth}
 use Rattle.ch_transcript.specs.Printing.{start_second}
 

@@ -9,12 +9,13 @@ ghost use Rattle.ch_turn.specs.declared.table.Slot.TheVariants.{Taken};
 
 use crate::steps::{Advance, Commit, Draw, Look};
 use crate::table::{COUNT, HOME, LockSeat, SERVING, SharedTable, Slot, TICKET};
+use crate::waiting::approach;
 use ch_base::{Memory, Served};
 use std::snapshot::Snapshot;
 use std::sync::Wait;
 use std::thread::yield_now;
 
-/// Draws a ticket, waits for its turn, and takes the value.
+/// Waits for the lock to be free, draws a ticket, waits for its turn, and takes the value.
 fn acquire<T: Served, R: Wait>(rt: &R, table: &SharedTable<T>, seat: &mut LockSeat<T>) -> T
     requires table { (seat.old.table_id ≡ table.now.table_id) × (table.now.table_id.words ≡ 3) }
     requires rests { Rests seat.old.me }
@@ -22,6 +23,7 @@ fn acquire<T: Served, R: Wait>(rt: &R, table: &SharedTable<T>, seat: &mut LockSe
     ensures table { (seat.new.table_id ≡ seat.old.table_id) × (seat.new.id ≡ seat.old.id) }
     ensures turn { Enters T.place T.legal T.stands seat.old.me result seat.new.me }
 {
+    approach(rt, table);
     let ticket = table.fetch_add::<Draw>(seat, TICKET, 1);
     for _ in rt.forever() {
         if table.load::<Look<T>>(seat, SERVING) == ticket {
@@ -32,8 +34,8 @@ fn acquire<T: Served, R: Wait>(rt: &R, table: &SharedTable<T>, seat: &mut LockSe
         }
         // The seat steps on the table at its look alone, so what the thread does between two looks can break no
         // promise, and how long a caller waits is no promise either. Yielding lets the caller that is served run on
-        // where there are fewer processors than threads. A caller that finds the lock free never comes here, and so
-        // makes no system call.
+        // where there are fewer processors than threads. It doesn't sleep: whoever has a ticket behind it would wait
+        // for it to wake.
         yield_now();
     }
     unreachable!()

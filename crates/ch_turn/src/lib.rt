@@ -21,6 +21,7 @@ mod table;
 mod tally;
 #[cfg(test)]
 mod tests;
+mod waiting;
 
 pub use closing::Closed;
 pub use lock::TurnLock;

@@ -1,8 +1,7 @@
 -- The worked bodies hold, by computing.
 use Rattle.std.proofs.Common.{refl}
 use Rattle.std.specs.Fmt.{digits}
-use Rattle.ch_base.specs.Escape.{escaped_byte}
-use Rattle.ch_protocol.specs.Events.{quoted}
+use Rattle.ch_base.specs.Escape.{escaped_byte, quoted}
 use Rattle.ch_webhooks.specs.Examples.{Bodies}
 
 pub bodies : Bodies

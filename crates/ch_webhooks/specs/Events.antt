@@ -4,7 +4,7 @@ use Rattle.std.specs.Fmt.{decimal}
 use Rattle.std.specs.List.{join_by}
 use Rattle.ch_base.specs.declared.webhook.Hook.{Hook}
 use Rattle.ch_base.specs.declared.webhook.Hook.TheVariants.{Occupied, Vacated, Added, Removed, Client, Miss}
-use Rattle.ch_protocol.specs.Events.{quoted}
+use Rattle.ch_base.specs.Escape.{quoted}
 
 -- an event of a channel ("Channel existence events", "Cache channel events")
 abbrev pub of_channel : List ℕ → List ℕ → List ℕ

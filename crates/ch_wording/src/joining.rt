@@ -3,9 +3,9 @@ ghost use Rattle.ch_history.specs.ChannelName.{is_good_name, kind_of, needs_auth
 ghost use Rattle.ch_transcript.specs.Joining.{auth_member, data_member, join_text};
 
 use crate::authorization::channel_auth;
-use crate::strings::quoted;
 use ch_base::{Memory, Text};
 use ch_config::Config;
+use ch_json::quoted;
 use ch_names::kind;
 use std::alloc::Global;
 

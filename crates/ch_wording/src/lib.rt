@@ -9,7 +9,6 @@ mod authorization;
 mod joining;
 mod sent_line;
 mod signing_in;
-mod strings;
 mod tail_line;
 
 pub use joining::join_text;

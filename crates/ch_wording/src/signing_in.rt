@@ -1,11 +1,11 @@
 ghost use Rattle.std.specs.Prelude.{◌≡◌, ◌++◌, IfOk, codes, string_bytes};
-ghost use Rattle.ch_protocol.specs.Events.{quoted};
+ghost use Rattle.ch_base.specs.Escape.{quoted};
 ghost use Rattle.ch_transcript.specs.Joining.{sign_in_text};
 
 use crate::authorization::user_auth;
-use crate::strings::quoted;
 use ch_base::{Memory, Text};
 use ch_config::Config;
+use ch_json::quoted;
 use std::alloc::Global;
 
 /// The message by which the socket with this number signs in the user of these data, rightly authorized

@@ -1,6 +1,6 @@
 //! The texts that are read, over tables.
 use ch_base::Text;
-use ch_json::{JsonError, escape_into, read};
+use ch_json::{JsonError, escape_into, quoted, read};
 use std::alloc::Global;
 use std::test::Fail;
 
@@ -84,5 +84,12 @@ fn escapes(rt: HostRuntime) -> Result<(), Fail> {
         escape_into(&mut out, text)?;
         assert_eq!(rt; out.as_str(), want, "of {text}");
     }
+    Ok(())
+}
+
+#[test]
+fn quotes(rt: HostRuntime) -> Result<(), Fail> {
+    let string = quoted(rt.alloc(), "a\"b\n")?;
+    assert_eq!(rt; string.as_str(), "\"a\\\"b\\n\"");
     Ok(())
 }

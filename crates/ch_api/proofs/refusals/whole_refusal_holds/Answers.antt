@@ -1,7 +1,6 @@
 use Rattle.std.proofs.Common.{refl}
 use Rattle.std.specs.Fmt.{digits}
-use Rattle.ch_base.specs.Escape.{escaped_byte}
-use Rattle.ch_protocol.specs.Events.{quoted}
+use Rattle.ch_base.specs.Escape.{escaped_byte, quoted}
 use Rattle.ch_api.proofs.refusals.whole_refusal_holds.Goals as goal
 
 pub returns : goal.returns
