@@ -3,3 +3,5 @@ pub mod DrillCounts
 pub mod DrillText
 pub mod DrillLinks
 pub mod DrillCloses
+pub mod DrillRuns
+pub mod Seats
