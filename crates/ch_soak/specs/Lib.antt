@@ -1,3 +1,4 @@
 pub mod SoakWords
 pub mod Generator
 pub mod SoakText
+pub mod Summed
