@@ -43,14 +43,13 @@ channel_of c =
 abbrev pub has_members : ℕ → Bool
 has_members c = nat_le 4 c
 
--- the name of a user
-abbrev pub user_of : ℕ → List ℕ
-user_of u = codes "u" ++ decimal u
+-- the data of a member, on a channel that has members
+abbrev pub member_of : Draws → List ℕ
+member_of d = if has_members d.channel then codes " {\"user_id\":\"u" ++ decimal d.user ++ codes "\"}" else []
 
--- a socket subscribes, on a channel with members as a user
+-- a socket subscribes, rightly authorized
 abbrev pub join_command : Draws → List ℕ
-join_command d = codes "join " ++ decimal d.socket ++ codes " " ++ channel_of d.channel
-    ++ (if has_members d.channel then codes " {\"user_id\":\"" ++ user_of d.user ++ codes "\"}" else [])
+join_command d = codes "join " ++ decimal d.socket ++ codes " " ++ channel_of d.channel ++ member_of d
 
 -- a socket unsubscribes
 abbrev pub unsubscribe_command : Draws → List ℕ
@@ -68,7 +67,7 @@ say_command i d = codes "say " ++ decimal d.socket ++ codes " {\"event\":\"clien
 
 -- a socket signs a user in, who watches two users
 abbrev pub sign_in_command : Draws → List ℕ
-sign_in_command d = codes "signin " ++ decimal d.socket ++ codes " {\"id\":\"" ++ user_of d.user
+sign_in_command d = codes "signin " ++ decimal d.socket ++ codes " {\"id\":\"u" ++ decimal d.user
     ++ codes "\",\"watchlist\":[\"u0\",\"u1\"]}"
 
 -- what line i says after its moment

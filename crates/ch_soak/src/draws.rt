@@ -44,7 +44,7 @@ pub(crate) fn stirred(state: u64) -> u64
 /// The number that is drawn, by the state after the draw.
 fn drawn(below: u64, state: u64) -> u64
     requires { 0 < below }
-    ensures { result ≡ drawn below state }
+    ensures drawn { result ≡ drawn below state }
     ensures below { result < below }
 {
     (state >> 33) % below

@@ -92,12 +92,20 @@ fn join_command(alloc: Global, draws: &Draws) -> Result<String, Memory>
 {
     let socket = draws.socket;
     let channel = channel_of(draws.channel);
-    if has_members(draws.channel) {
-        let user = draws.user;
-        let text = format!(in alloc; "join {socket} {channel} {{\"user_id\":\"u{user}\"}}")?;
-        return Ok(text);
+    let member = member_of(alloc, draws)?;
+    let text = format!(in alloc; "join {socket} {channel}{member}")?;
+    Ok(text)
+}
+
+/// The data of a member, on a channel that has members.
+fn member_of(alloc: Global, draws: &Draws) -> Result<String, Memory>
+    ensures { IfOk result (λ text. string_bytes text ≡ spec.member_of draws.now) }
+{
+    if !has_members(draws.channel) {
+        return Ok(String::new(alloc));
     }
-    let text = format!(in alloc; "join {socket} {channel}")?;
+    let user = draws.user;
+    let text = format!(in alloc; " {{\"user_id\":\"u{user}\"}}")?;
     Ok(text)
 }
 
