@@ -1,7 +1,6 @@
 -- The lines that are left.
-use Rattle.std.proofs.Common.{◌≡◌, ◌≤◌, ◌<◌, ◌-◌, ◌+◌, ℕ, zero, suc, ap, sym, subst, refl, ◌∙◌, arith, List, [], ◌∷◌, ◌++◌, drop, take, length, append_assoc}
-use Rattle.std.specs.Prelude.{Option, Some}
-use Rattle.std.proofs.lemmas.List.{take-append-drop, drop_all}
+use Rattle.std.proofs.Common.{◌≡◌, ◌≤◌, ◌<◌, ◌-◌, ◌+◌, ℕ, suc, ap, sym, ◌∙◌, arith, List, ◌++◌, drop, take, length, append_assoc}
+use Rattle.std.proofs.lemmas.List.{drop_all}
 use Rattle.ch_io.proofs.Pieces.{next_piece}
 use Rattle.ch_transcript.specs.Printing.{line_end}
 use Rattle.ch_soak.specs.Generator.{line_at, state_after, lines_from}

@@ -7,6 +7,7 @@
 
 mod draws;
 mod generator;
+mod printing;
 mod soaking;
 mod source;
 mod summing;

@@ -1,4 +1,4 @@
-use Rattle.std.proofs.Common.{◌≡◌, ◌≤◌, ◌<◌, ◌-◌, ◌+◌, suc, ℕ, ap, sym, ◌∙◌, arith, List, [], ◌++◌, drop, length}
+use Rattle.std.proofs.Common.{arith}
 use Rattle.ch_soak.proofs.Lines.{next_line}
 use Rattle.ch_soak.proofs.source.Drawn.refill.Goals as goal
 

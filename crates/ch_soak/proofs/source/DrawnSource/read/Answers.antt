@@ -1,4 +1,4 @@
-use Rattle.std.proofs.Common.{drop, sym, ◌∙◌, ◌-◌, ◌+◌, arith, string_bytes}
+use Rattle.std.proofs.Common.{drop, sym, ◌∙◌, ◌-◌, arith, string_bytes}
 use Rattle.std.proofs.lemmas.Grind.{common_steps}
 use Rattle.ch_soak.proofs.Lines.{given_on}
 use Rattle.ch_soak.specs.Generator.{lines_from}
