@@ -3,3 +3,4 @@ pub mod Generator
 pub mod Drawing
 pub mod SoakText
 pub mod Summed
+pub mod Laws

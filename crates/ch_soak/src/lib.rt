@@ -7,6 +7,7 @@
 
 mod draws;
 mod generator;
+mod laws;
 mod printing;
 mod soaking;
 mod source;
@@ -14,5 +15,6 @@ mod summing;
 mod words;
 
 pub use draws::{Action, Draws};
+pub use laws::each_is_playable;
 pub use soaking::soak;
 pub use words::{Soak, soak_of};
