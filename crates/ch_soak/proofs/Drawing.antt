@@ -1,16 +1,16 @@
 -- What the drawn lines say.
-use Rattle.std.proofs.Common.{◌≡◌, ℕ, ◌+◌, ◌-◌, ◌*◌, ◌/◌, ◌%◌, ◌^◌, ◌<◌, ◌≤◌, Bool, true, false, ◌&&◌, not, cond, nat_eq, nat_le, nat_lt, refl, sym, ap, subst, ◌∙◌, List, [], ◌∷◌, ◌++◌, length, length-append, append_assoc, append-nil, arith, codes, map}
+use Rattle.std.proofs.Common.{◌≡◌, ℕ, ◌+◌, ◌^◌, ◌<◌, ◌≤◌, Bool, true, false, ◌&&◌, not, cond, nat_le, refl, ap, ◌∙◌, List, [], ◌∷◌, ◌++◌, length, append_assoc, append-nil, arith, codes, map}
 use Rattle.std.specs.Prelude.{Option, Some, None, ◌==◌}
 use Rattle.std.specs.Fmt.{decimal}
-use Rattle.std.specs.List.{list_any, list_all}
-use Rattle.std.proofs.lemmas.Bool.{leb-true, lt-ltb}
+use Rattle.std.specs.List.{list_all}
+use Rattle.std.proofs.lemmas.Bool.{leb-true}
 use Rattle.std.proofs.lemmas.Fmt.{length-decimal-le}
-use Rattle.ch_base.specs.JsonText.{byte, Chars, is_unescaped, IsJsonString, Char}
+use Rattle.ch_base.specs.JsonText.{byte, Chars, is_unescaped, IsJsonString}
 use Rattle.ch_history.specs.ChannelName.{is_good_name}
 use Rattle.ch_history.specs.Limits.{is_event_name}
 use Rattle.ch_transcript.specs.declared.commands.Command.{Command}
 use Rattle.ch_transcript.specs.declared.commands.Command.TheVariants.{Say, Join, SignIn, Publish, Hooks}
-use Rattle.ch_transcript.specs.Commands.{is_blank, first_part, more_parts, number_in, latest_moment, command_of, command_in, command_by, join_in, join_of, say_in, sign_in_in, publish_in, publish_on, publish_of}
+use Rattle.ch_transcript.specs.Commands.{first_part, more_parts, number_in, latest_moment, command_of, command_in, command_by, join_in, join_of, say_in, sign_in_in, publish_on, publish_of}
 use Rattle.ch_soak.specs.declared.draws.Action.{Action}
 use Rattle.ch_soak.specs.declared.draws.Action.TheVariants as action
 use Rattle.ch_soak.specs.declared.draws.Draws.{Draws}

@@ -1,5 +1,5 @@
 -- What a line keeps: how many sockets there are.
-use Rattle.std.proofs.Common.{◌≡◌, ℕ, zero, suc, ◌+◌, ◌<◌, ◌≤◌, Bool, true, false, ◌&&◌, cond, nat_le, nat_lt, refl, sym, ap, subst, ◌∙◌, List, [], ◌∷◌, ◌++◌, length, length-set, length-append, arith}
+use Rattle.std.proofs.Common.{◌≡◌, ℕ, zero, suc, ◌+◌, ◌<◌, ◌≤◌, Bool, true, false, ◌&&◌, cond, nat_le, refl, sym, ap, subst, ◌∙◌, List, [], ◌∷◌, ◌++◌, length, length-set, length-append, arith}
 use Rattle.std.specs.Prelude.{Option, Some, None, MatchBool}
 use Rattle.std.proofs.lemmas.Bool.{lt-ltb}
 use Rattle.ch_base.specs.JsonText.{IsJsonString}
@@ -11,10 +11,9 @@ use Rattle.ch_protocol.specs.Shards.{Shards}
 use Rattle.ch_rate.specs.Quiet.{quiet_from}
 use Rattle.ch_transcript.specs.declared.commands.Command.{Command}
 use Rattle.ch_transcript.specs.declared.commands.Command.TheVariants.{Open, Say, Join, SignIn, Lose, Tick, Publish, Tail, Api, Hooks, Http}
-use Rattle.ch_transcript.specs.declared.commands.Line.{Line}
 use Rattle.ch_transcript.specs.declared.commands.Line.TheVariants.{Timed}
 use Rattle.ch_transcript.specs.Commands.{line_of}
-use Rattle.ch_transcript.specs.Progress.{Socket, Progress, Played, closed, socket_of, has_socket, is_live, with_socket, quietly}
+use Rattle.ch_transcript.specs.Progress.{Socket, Progress, Played, socket_of, has_socket, is_live, quietly}
 use Rattle.ch_transcript.specs.Rounds.{Telling, tells_as, tells, tells_all, all_waiting, taken, any_ended, loses_ended, Rounds, after_round, rounds, rounded}
 use Rattle.ch_transcript.specs.Turns.{Turn, hears}
 use Rattle.ch_transcript.specs.Obeying.{takes_turn, of_socket, opens, most_opened, greeting, is_accepted, publishes, may_except, Sense, IsJudged, Means, obeyed}

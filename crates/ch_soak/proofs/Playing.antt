@@ -1,5 +1,5 @@
 -- No line of a soak's transcript is refused.
-use Rattle.std.proofs.Common.{◌≡◌, ℕ, zero, suc, ◌+◌, ◌-◌, ◌*◌, ◌/◌, ◌%◌, ◌^◌, ◌<◌, ◌≤◌, min, Bool, true, false, cond, nat_lt, refl, sym, ap, subst, ◌∙◌, List, [], ◌∷◌, ◌++◌, length, append_assoc, arith, codes}
+use Rattle.std.proofs.Common.{◌≡◌, ℕ, zero, suc, ◌+◌, ◌<◌, ◌≤◌, min, Bool, true, false, cond, nat_lt, refl, sym, ap, subst, ◌∙◌, List, ◌∷◌, ◌++◌, length, append_assoc, arith, codes}
 use Rattle.std.specs.Prelude.{Option, Some, None, MatchBool}
 use Rattle.std.specs.Fmt.{decimal}
 use Rattle.std.proofs.lemmas.Bool.{ltb-true, le-ltb}
@@ -9,13 +9,12 @@ use Rattle.ch_config.specs.Config.{built_in}
 use Rattle.ch_protocol.specs.Targets.{target_refusal}
 use Rattle.ch_transcript.specs.declared.commands.Command.TheVariants.{Open}
 use Rattle.ch_transcript.specs.declared.commands.Line.TheVariants.{Timed}
-use Rattle.ch_transcript.specs.Commands.{line_of, open_in, command_by, command_of}
+use Rattle.ch_transcript.specs.Commands.{line_of, open_in}
 use Rattle.ch_transcript.specs.Lines.{longest_line, lines_of}
 use Rattle.ch_transcript.specs.Outcomes.{at_moment, Plays, Outcome, ends, Follows, OutcomeFrom}
 use Rattle.ch_transcript.specs.Printing.{line_end, long_line}
 use Rattle.ch_transcript.specs.Progress.{Progress, Played, beginning}
 use Rattle.ch_transcript.proofs.LineLemmas.{lines_of-line}
-use Rattle.ch_soak.specs.declared.draws.Draws.{Draws}
 use Rattle.ch_soak.specs.Generator.{draws_from, command_of as drawn_command, opened, line_at, state_after, lines_from}
 use Rattle.ch_soak.specs.Laws.{EachIsPlayable}
 use Rattle.ch_soak.proofs.Bytes.{is_plain, Plain, Plain-append, all_append, plain_no_end, plain_utf8}

@@ -1,18 +1,16 @@
 -- The parts of a line, and the numbers in it.
-use Rattle.std.proofs.Common.{◌≡◌, ℕ, ◌+◌, ◌<◌, ◌≤◌, ◌^◌, Bool, true, false, ◌&&◌, not, cond, nat_le, nat_lt, refl, sym, ap, ◌∙◌, List, [], ◌∷◌, ◌++◌, length, take, drop, length-append, append-nil, arith, bytes_eq}
-use Rattle.std.specs.Prelude.{Option, Some, None, ◌==◌}
+use Rattle.std.proofs.Common.{◌≡◌, ℕ, ◌+◌, ◌≤◌, true, false, ◌&&◌, not, cond, nat_le, refl, sym, ap, ◌∙◌, List, [], ◌∷◌, ◌++◌, length, take, drop, length-append, append-nil, arith, bytes_eq}
+use Rattle.std.specs.Prelude.{Option, Some, None}
 use Rattle.std.specs.Fmt.{decimal}
-use Rattle.std.specs.List.{list_any, list_all, prefix_len, position_or_len, after_first}
+use Rattle.std.specs.List.{list_any, list_all, position_or_len, after_first}
 use Rattle.std.specs.Str.{is_utf8}
-use Rattle.std.specs.Str.Parse.{digits_value}
 use Rattle.std.proofs.Math.Seq.{take-append_seam, drop-append-add}
 use Rattle.std.proofs.lemmas.Bool.{lt-ltb, le-ltb}
 use Rattle.std.proofs.lemmas.Fmt.{decimal_is_IsNumeral}
 use Rattle.std.proofs.lemmas.Slice.Eq.{bytes_eq-Decides}
 use Rattle.ch_transcript.specs.declared.commands.Command.{Command}
-use Rattle.ch_transcript.specs.declared.commands.Line.{Line}
 use Rattle.ch_transcript.specs.declared.commands.Line.TheVariants.{Skipped, Timed, Bad}
-use Rattle.ch_transcript.specs.Commands.{is_blank, first_part, more_parts, has_blank, number_in, latest_moment, command_of, command_after, timed, is_skipped, line_in, line_of}
+use Rattle.ch_transcript.specs.Commands.{is_blank, first_part, more_parts, number_in, latest_moment, command_of, command_after, timed, is_skipped, line_in, line_of}
 use Rattle.ch_soak.proofs.Bytes.{is_digit, digit_least, and_both, both_true, or_left, or_right, differs, at_least, digits_are, digits_no_blank}
 
 -- no blank stands in the word

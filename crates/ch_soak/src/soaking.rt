@@ -1,8 +1,9 @@
 //! The soak itself.
-ghost use Rattle.std.specs.Prelude.{◌≡◌, ◌⊎◌, ℕ, List, IfOk, OnOk, Some, string_bytes};
+ghost use Rattle.std.specs.Prelude.{◌≡◌, ◌≤◌, ◌⊎◌, ℕ, List, IfOk, OnOk, Some, string_bytes};
 ghost use Rattle.std.specs.Io.KnownBytes.{Appends};
 ghost use Rattle.ch_config.specs.Config.{built_in};
 ghost use Rattle.ch_io.specs.Counts.{Rose};
+ghost use Rattle.ch_replay.specs.Playable.{IsPlayable};
 ghost use Rattle.ch_transcript.specs.Outcomes.{HasOutcome, ends};
 ghost use Rattle.ch_transcript.specs.Replayed.{WritesLast};
 ghost use Rattle.ch_soak.specs.Drawing.{left_of};
@@ -24,6 +25,9 @@ const DONE: u8 = 0;
 
 /// The words ask for no soak.
 const USAGE: u8 = 2;
+
+/// A read failed.
+const READ_FAILED: u8 = 5;
 
 /// A write failed.
 const WRITE_FAILED: u8 = 6;
@@ -75,7 +79,9 @@ fn write_usage<K: Sink>(sink: &mut K)
 }
 
 /// The line that sums up the output of the soak's transcript.
+#[tactic(auto, using(crate::proofs::Playing::playable))]
 fn summed(alloc: Global, soak: &Soak) -> Result<String, Memory>
+    requires { soak.now.lines ≤ 20000 }
     ensures { IfOk result (λ line. IsSummary soak.now (string_bytes line)) }
 {
     let mut source = Drawn::new(alloc, soak);
@@ -84,15 +90,17 @@ fn summed(alloc: Global, soak: &Soak) -> Result<String, Memory>
     summary(alloc, soak, output)
 }
 
-/// Replays a transcript under the built-in configuration. A read of it fails only where there is no memory for a line, and a
+/// Replays a transcript of which no line is refused under the built-in configuration. A read of it fails only where there is no memory for a line, and a
 /// write to what sums up only where there is none to count it.
 fn replay_drawn(alloc: Global, source: &mut Drawn, output: &mut Summing) -> Result<(), Memory>
+    requires { IsPlayable built_in (left_of source.old) }
     ensures { OnOk result ((text : List ℕ) × HasOutcome built_in (left_of source.old) (ends 0 text) × Appends output.old.held output.new.held text) }
 {
     let words = [Text::of(alloc, "replay")?];
     let config = built_in_text().as_bytes();
     match replay(alloc, &words, Some(config), source, output) {
         DONE => Ok(()),
-        _ => Err(Memory),
+        READ_FAILED | WRITE_FAILED | MEMORY => Err(Memory),
+        _ => unreachable!(),
     }
 }
