@@ -1,0 +1,9 @@
+pub mod Numbers
+pub mod ThreeWords
+pub mod Lines
+pub mod Pieces
+pub mod Bytes
+pub mod WordsOfLines
+pub mod Keeping
+pub mod Drawing
+pub mod Playing

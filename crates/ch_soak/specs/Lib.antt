@@ -1,0 +1,6 @@
+pub mod SoakWords
+pub mod Generator
+pub mod Drawing
+pub mod SoakText
+pub mod Summed
+pub mod Laws

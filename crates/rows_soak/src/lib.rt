@@ -1,0 +1,5 @@
+//! Tests of soaks, over the libraries.
+#![tactic(auto)]
+
+#[cfg(test)]
+mod soaks;
