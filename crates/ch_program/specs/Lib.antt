@@ -1,3 +1,6 @@
+pub mod Commands
 pub mod Given
 pub mod Program
+pub mod Replays
+pub mod Soaks
 pub mod Words

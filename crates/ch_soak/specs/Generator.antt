@@ -1,0 +1,108 @@
+-- The transcript of a soak: eight connections are opened, and then each line is drawn.
+use Rattle.std.specs.Prelude.{◌+◌, ◌-◌, ◌*◌, ◌/◌, ◌%◌, ◌^◌, ◌==◌, ℕ, zero, suc, Bool, nat_le, nat_lt, List, [], ◌∷◌, ◌++◌, codes, if◌then◌else◌}
+use Rattle.std.specs.Fmt.{decimal}
+use Rattle.ch_transcript.specs.Printing.{line_end}
+use Rattle.ch_soak.specs.declared.words.Soak.{Soak}
+
+-- ---- draws
+
+-- the state of the generator after one draw: a linear congruence modulo 2^64
+abbrev pub stirred : ℕ → ℕ
+stirred x = (x * 6364136223846793005 + 1442695040888963407) % 2 ^ 64
+
+-- the number below m that is drawn from the state after the draw: by its high bits
+abbrev pub drawn : ℕ → ℕ → ℕ
+drawn m x = x / 2 ^ 33 % m
+
+-- what a line draws, in order: what it does, by which socket, on which channel, and for which user where it names one
+pub record Draws : Type 0 where
+  pub action : ℕ
+  pub socket : ℕ
+  pub channel : ℕ
+  pub user : ℕ
+
+abbrev pub draws_from : ℕ → Draws
+draws_from x = record {
+  action = drawn 8 (stirred x);
+  socket = 1 + drawn 8 (stirred (stirred x));
+  channel = drawn 6 (stirred (stirred (stirred x)));
+  user = drawn 4 (stirred (stirred (stirred (stirred x))));
+}
+
+-- ---- lines
+
+-- the six channels, one of each kind that isn't encrypted and not both private and cached; the last two have members
+abbrev pub channel_of : ℕ → List ℕ
+channel_of c =
+    if c == 0 then codes "a" else if c == 1 then codes "b" else if c == 2 then codes "cache-c"
+    else if c == 3 then codes "private-p" else if c == 4 then codes "presence-q" else codes "presence-cache-z"
+
+abbrev pub has_members : ℕ → Bool
+has_members c = nat_le 4 c
+
+-- the name of a user
+abbrev pub user_of : ℕ → List ℕ
+user_of u = codes "u" ++ decimal u
+
+-- a socket subscribes, on a channel with members as a user
+abbrev pub join_command : Draws → List ℕ
+join_command d = codes "join " ++ decimal d.socket ++ codes " " ++ channel_of d.channel
+    ++ (if has_members d.channel then codes " {\"user_id\":\"" ++ user_of d.user ++ codes "\"}" else [])
+
+-- a socket unsubscribes
+abbrev pub leave_command : Draws → List ℕ
+leave_command d = codes "say " ++ decimal d.socket ++ codes " {\"event\":\"pusher:unsubscribe\",\"data\":{\"channel\":\""
+    ++ channel_of d.channel ++ codes "\"}}"
+
+-- a back end publishes the number of the line
+abbrev pub publish_command : ℕ → Draws → List ℕ
+publish_command i d = codes "publish " ++ channel_of d.channel ++ codes " e \"" ++ decimal i ++ codes "\""
+
+-- a socket says the number of the line to the other subscribers
+abbrev pub say_command : ℕ → Draws → List ℕ
+say_command i d = codes "say " ++ decimal d.socket ++ codes " {\"event\":\"client-m\",\"channel\":\"" ++ channel_of d.channel
+    ++ codes "\",\"data\":" ++ decimal i ++ codes "}"
+
+-- a socket signs a user in, who watches two users
+abbrev pub sign_in_command : Draws → List ℕ
+sign_in_command d = codes "signin " ++ decimal d.socket ++ codes " {\"id\":\"" ++ user_of d.user
+    ++ codes "\",\"watchlist\":[\"u0\",\"u1\"]}"
+
+abbrev pub command_of : ℕ → Draws → List ℕ
+command_of i d =
+    if nat_lt d.action 2 then join_command d
+    else if d.action == 2 then leave_command d
+    else if nat_lt d.action 5 then publish_command i d
+    else if d.action == 5 then say_command i d
+    else if d.action == 6 then sign_in_command d
+    else codes "hooks"
+
+-- whether the line draws a user
+abbrev pub names_user : Draws → Bool
+names_user d = if nat_lt d.action 2 then has_members d.channel else d.action == 6
+
+-- how many connections are opened
+abbrev pub opened : ℕ
+opened = 8
+
+-- line i, drawn from a state; the first line is line 0, and each drawn line is at the moment of its number
+abbrev pub line_at : ℕ → ℕ → List ℕ
+line_at i x =
+    if nat_lt i opened then codes "0 open /app/k?protocol=7" else decimal i ++ codes " " ++ command_of i (draws_from x)
+
+-- the state after line i
+abbrev pub state_after : ℕ → ℕ → ℕ
+state_after i x =
+    if nat_lt i opened then x
+    else if names_user (draws_from x) then stirred (stirred (stirred (stirred x)))
+    else stirred (stirred (stirred x))
+
+-- ---- the transcript
+
+-- so many lines, of which the first is line i, drawn from a state
+abbrev pub lines_from : ℕ → ℕ → ℕ → List ℕ
+lines_from zero i x = []
+lines_from (suc count) i x = line_at i x ++ line_end ++ lines_from count (i + 1) (state_after i x)
+
+abbrev pub transcript : Soak → List ℕ
+transcript soak = lines_from soak.lines 0 soak.seed

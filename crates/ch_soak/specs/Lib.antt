@@ -1,0 +1,3 @@
+pub mod SoakWords
+pub mod Generator
+pub mod SoakText
