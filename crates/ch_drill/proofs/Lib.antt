@@ -1,5 +1,7 @@
 pub mod Numbers
 pub mod ThreeWords
 pub mod Rounds
-pub mod Passing
 pub mod TwoCounts
+pub mod Moved
+pub mod Seating
+pub mod Crossing

@@ -5,9 +5,9 @@ use Rattle.ch_history.specs.Placement.{shard_of}
 use Rattle.ch_drill.specs.declared.words.Drill.{Drill}
 use Rattle.ch_drill.specs.declared.counts.DrillCounts.{DrillCounts}
 
--- a drill is no larger than that
+-- a drill is of 1 to 16 workers, and of no more rounds than that
 abbrev pub IsSmall : Drill → Type 0
-IsSmall drill = (drill.workers ≤ 16) × (drill.rounds ≤ 1000)
+IsSmall drill = (1 ≤ drill.workers) × (drill.workers ≤ 16) × (drill.rounds ≤ 1000)
 
 -- how many turns each worker makes: one for its handshake, one for each message, one to hear that the other side is gone,
 -- and one for the losses

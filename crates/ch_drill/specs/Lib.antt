@@ -2,5 +2,6 @@ pub mod DrillWords
 pub mod DrillCounts
 pub mod DrillText
 pub mod DrillLinks
-pub mod AllPasses
 pub mod DrillCloses
+pub mod DrillRuns
+pub mod Seats

@@ -1,6 +1,6 @@
 //! How many entries the shards have after a drill.
-ghost use Rattle.std.specs.Prelude.{◌≡◌, ◌<◌, ◌≤◌, IfOk, string_bytes};
-ghost use Rattle.ch_drill.specs.DrillCounts.{IsSmall, channel_of, rounds_on, chan_entries, user_entries, drill_counts};
+ghost use Rattle.std.specs.Prelude.{◌≡◌, ◌<◌, ◌≤◌, ◌^◌, IfOk, string_bytes};
+ghost use Rattle.ch_drill.specs.DrillCounts.{IsCounted, IsSmall, channel_of, rounds_on, chan_entries, drill_counts, turns_of};
 
 use crate::words::Drill;
 use ch_base::Memory;
@@ -21,13 +21,23 @@ pub struct DrillCounts {
 /// How many entries each shard has after the drill. Nothing is left open.
 pub fn drill_counts(alloc: Global, drill: &Drill) -> Result<DrillCounts, Memory>
     requires { IsSmall drill.now }
-    ensures { IfOk result (λ counts. counts ≡ drill_counts drill.now) }
+    ensures counts { IfOk result (λ counts. counts ≡ drill_counts drill.now) }
+    ensures few { IfOk result IsCounted }
 {
     Ok(DrillCounts {
         first_chan: chan_entries(alloc, drill, 0)?,
         second_chan: chan_entries(alloc, drill, 1)?,
-        each_user: drill.workers * (2 * drill.rounds + 3),
+        each_user: drill.workers * turns_of(drill),
     })
+}
+
+/// How many turns each worker makes: one for its handshake, one for each message, one to hear that the other side is
+/// gone, and one for the losses.
+pub(crate) fn turns_of(drill: &Drill) -> u64
+    requires { IsSmall drill.now }
+    ensures { result ≡ turns_of drill.now }
+{
+    2 * drill.rounds + 3
 }
 
 /// How many entries a channel shard has: of each worker a Take in each turn, a Join and a Leave in each round there,
@@ -35,10 +45,10 @@ pub fn drill_counts(alloc: Global, drill: &Drill) -> Result<DrillCounts, Memory>
 fn chan_entries(alloc: Global, drill: &Drill, shard: u64) -> Result<u64, Memory>
     requires small { IsSmall drill.now }
     ensures entries { IfOk result (λ n. n ≡ chan_entries drill.now shard) }
+    ensures few { IfOk result (λ n. n < 2 ^ 32) }
 {
     let rounds = rounds_on(alloc, drill.rounds, shard)?;
-    let turns = 2 * drill.rounds + 3;
-    Ok(drill.workers * (turns + 2 * rounds + rounds.min(1)))
+    Ok(drill.workers * (turns_of(drill) + 2 * rounds + rounds.min(1)))
 }
 
 /// How many of so many rounds are on a channel shard.

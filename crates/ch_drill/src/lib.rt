@@ -4,18 +4,23 @@
 //! ([`arrivals_of`]), which makes its handshake, subscribes to a channel and unsubscribes from it for each round, and
 //! hangs up. So the definitions say how many entries each shard's history has at the end, however the workers' calls
 //! interleave (`specs/DrillCounts.antt`), and what is printed ([`drill_text`]).
+//!
+//! [`drill`] runs it: each worker takes its turns on a thread of its own, and then the house is closed. Only where its
+//! counts are those of the definitions, and each worker took its turns and its connection, is the status 0.
 #![tactic(auto)]
 
-mod all_passes;
 mod arrivals;
 mod closing;
 mod counts;
 mod printing;
+mod running;
+mod seat;
 mod words;
+mod working;
 
-pub use all_passes::{give_passes, take_passes};
 pub use arrivals::arrivals_of;
 pub use closing::is_closed_after;
 pub use counts::{DrillCounts, drill_counts};
 pub use printing::{drill_text, usage_text};
+pub use running::drill;
 pub use words::{Drill, drill_of};

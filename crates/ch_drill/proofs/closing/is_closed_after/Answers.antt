@@ -1,4 +1,4 @@
-use Rattle.std.proofs.Common.{◌≡◌, Bool, true, ap, ◌∙◌, [], ◌∷◌}
+use Rattle.std.proofs.Common.{◌≡◌, true, ◌∙◌, [], ◌∷◌}
 use Rattle.ch_house.specs.declared.counts.ShardCount.{ShardCount}
 use Rattle.ch_house.specs.Closes.{ClosedModel}
 use Rattle.ch_drill.proofs.TwoCounts.{two_are}

@@ -1,6 +1,6 @@
 use Rattle.std.proofs.Common.{length}
-use Rattle.ch_drill.proofs.Passing.{Giving}
-use Rattle.ch_drill.proofs.all_passes.give_passes.Given as goal
+use Rattle.ch_pool.proofs.Passing.{Giving}
+use Rattle.ch_pool.proofs.all_passes.give_passes.Given as goal
 
 abbrev pub invariant-loop-one : goal.invariant-loop-one
 invariant-loop-one l = Giving l.fn.passes.house l.passes l.taken.items

@@ -1,6 +1,6 @@
 use Rattle.std.proofs.Common.{◌<◌, length, arith}
-use Rattle.ch_drill.proofs.Passing.{take_one}
-use Rattle.ch_drill.proofs.all_passes.take_passes.Goals as goal
+use Rattle.ch_pool.proofs.Passing.{take_one}
+use Rattle.ch_pool.proofs.all_passes.take_passes.Goals as goal
 
 pub loop-caller-preserved : goal.loop-caller-preserved
 loop-caller-preserved c =

@@ -1,7 +1,7 @@
 //! The passes of all callers of a house, taken and given back at once.
 ghost use Rattle.std.specs.Prelude.{◌≡◌, length, IfOk, OnOk};
 ghost use Rattle.ch_house.specs.Houses.{IsWhole};
-ghost use Rattle.ch_drill.specs.AllPasses.{AreAllOf, IsEmptied};
+ghost use Rattle.ch_pool.specs.AllPasses.{AreAllOf, IsEmptied};
 
 use ch_base::Memory;
 use ch_house::{Passes, PassesList};

@@ -6,7 +6,7 @@ use mathlib.Core.Logic.{dite}
 use native.Mathlib.Decide.{ℕ_discrete, dec_lt}
 use Rattle.ch_house.specs.Houses.{HouseModel, PassesModel, PassesListModel, ArePassesOf, IsWhole}
 use Rattle.ch_house.proofs.Places.{each_push}
-use Rattle.ch_drill.specs.AllPasses.{AreAllOf, IsEmptied}
+use Rattle.ch_pool.specs.AllPasses.{AreAllOf, IsEmptied}
 
 abbrev pub Slots : Type 0
 Slots = List (Option PassesModel)
