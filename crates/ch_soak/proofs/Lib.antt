@@ -1,2 +1,4 @@
 pub mod Numbers
 pub mod ThreeWords
+pub mod Lines
+pub mod Pieces

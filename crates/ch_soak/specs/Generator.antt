@@ -1,7 +1,10 @@
 -- The transcript of a soak: eight connections are opened, and then each line is drawn.
-use Rattle.std.specs.Prelude.{◌+◌, ◌-◌, ◌*◌, ◌/◌, ◌%◌, ◌^◌, ◌==◌, ℕ, zero, suc, Bool, nat_le, nat_lt, List, [], ◌∷◌, ◌++◌, codes, if◌then◌else◌}
+use Rattle.std.specs.Prelude.{◌+◌, ◌*◌, ◌/◌, ◌%◌, ◌^◌, ◌==◌, ℕ, zero, suc, Bool, true, false, nat_le, nat_lt, List, [], ◌++◌, codes, if◌then◌else◌}
 use Rattle.std.specs.Fmt.{decimal}
 use Rattle.ch_transcript.specs.Printing.{line_end}
+use Rattle.ch_soak.specs.declared.draws.Action.{Action}
+use Rattle.ch_soak.specs.declared.draws.Action.TheVariants.{Join, Unsubscribe, Publish, Say, SignIn, Hooks}
+use Rattle.ch_soak.specs.declared.draws.Draws.{Draws}
 use Rattle.ch_soak.specs.declared.words.Soak.{Soak}
 
 -- ---- draws
@@ -14,16 +17,16 @@ stirred x = (x * 6364136223846793005 + 1442695040888963407) % 2 ^ 64
 abbrev pub drawn : ℕ → ℕ → ℕ
 drawn m x = x / 2 ^ 33 % m
 
--- what a line draws, in order: what it does, by which socket, on which channel, and for which user where it names one
-pub record Draws : Type 0 where
-  pub action : ℕ
-  pub socket : ℕ
-  pub channel : ℕ
-  pub user : ℕ
+-- what a line does, by a number below 8
+abbrev pub action_of : ℕ → Action
+action_of n =
+    if nat_lt n 2 then Join else if n == 2 then Unsubscribe else if nat_lt n 5 then Publish
+    else if n == 5 then Say else if n == 6 then SignIn else Hooks
 
+-- what a line draws from a state, in this order: what it does, by which socket, on which channel, and for which user
 abbrev pub draws_from : ℕ → Draws
 draws_from x = record {
-  action = drawn 8 (stirred x);
+  action = action_of (drawn 8 (stirred x));
   socket = 1 + drawn 8 (stirred (stirred x));
   channel = drawn 6 (stirred (stirred (stirred x)));
   user = drawn 4 (stirred (stirred (stirred (stirred x))));
@@ -40,18 +43,17 @@ channel_of c =
 abbrev pub has_members : ℕ → Bool
 has_members c = nat_le 4 c
 
--- the name of a user
-abbrev pub user_of : ℕ → List ℕ
-user_of u = codes "u" ++ decimal u
+-- the data of a member, on a channel that has members
+abbrev pub member_of : Draws → List ℕ
+member_of d = if has_members d.channel then codes " {\"user_id\":\"u" ++ decimal d.user ++ codes "\"}" else []
 
--- a socket subscribes, on a channel with members as a user
+-- a socket subscribes, rightly authorized
 abbrev pub join_command : Draws → List ℕ
-join_command d = codes "join " ++ decimal d.socket ++ codes " " ++ channel_of d.channel
-    ++ (if has_members d.channel then codes " {\"user_id\":\"" ++ user_of d.user ++ codes "\"}" else [])
+join_command d = codes "join " ++ decimal d.socket ++ codes " " ++ channel_of d.channel ++ member_of d
 
 -- a socket unsubscribes
-abbrev pub leave_command : Draws → List ℕ
-leave_command d = codes "say " ++ decimal d.socket ++ codes " {\"event\":\"pusher:unsubscribe\",\"data\":{\"channel\":\""
+abbrev pub unsubscribe_command : Draws → List ℕ
+unsubscribe_command d = codes "say " ++ decimal d.socket ++ codes " {\"event\":\"pusher:unsubscribe\",\"data\":{\"channel\":\""
     ++ channel_of d.channel ++ codes "\"}}"
 
 -- a back end publishes the number of the line
@@ -65,21 +67,23 @@ say_command i d = codes "say " ++ decimal d.socket ++ codes " {\"event\":\"clien
 
 -- a socket signs a user in, who watches two users
 abbrev pub sign_in_command : Draws → List ℕ
-sign_in_command d = codes "signin " ++ decimal d.socket ++ codes " {\"id\":\"" ++ user_of d.user
+sign_in_command d = codes "signin " ++ decimal d.socket ++ codes " {\"id\":\"u" ++ decimal d.user
     ++ codes "\",\"watchlist\":[\"u0\",\"u1\"]}"
 
-abbrev pub command_of : ℕ → Draws → List ℕ
-command_of i d =
-    if nat_lt d.action 2 then join_command d
-    else if d.action == 2 then leave_command d
-    else if nat_lt d.action 5 then publish_command i d
-    else if d.action == 5 then say_command i d
-    else if d.action == 6 then sign_in_command d
-    else codes "hooks"
+-- what line i says after its moment
+abbrev pub command_of : ℕ → Draws → Action → List ℕ
+command_of i d Join = join_command d
+command_of i d Unsubscribe = unsubscribe_command d
+command_of i d Publish = publish_command i d
+command_of i d Say = say_command i d
+command_of i d SignIn = sign_in_command d
+command_of i d Hooks = codes "hooks"
 
--- whether the line draws a user
-abbrev pub names_user : Draws → Bool
-names_user d = if nat_lt d.action 2 then has_members d.channel else d.action == 6
+-- whether a line names a user
+abbrev pub names_user : Draws → Action → Bool
+names_user d Join = has_members d.channel
+names_user d SignIn = true
+names_user d _ = false
 
 -- how many connections are opened
 abbrev pub opened : ℕ
@@ -88,13 +92,13 @@ opened = 8
 -- line i, drawn from a state; the first line is line 0, and each drawn line is at the moment of its number
 abbrev pub line_at : ℕ → ℕ → List ℕ
 line_at i x =
-    if nat_lt i opened then codes "0 open /app/k?protocol=7" else decimal i ++ codes " " ++ command_of i (draws_from x)
+    if nat_lt i opened then codes "0 open /app/k?protocol=7" else decimal i ++ codes " " ++ command_of i (draws_from x) (draws_from x).action
 
 -- the state after line i
 abbrev pub state_after : ℕ → ℕ → ℕ
 state_after i x =
     if nat_lt i opened then x
-    else if names_user (draws_from x) then stirred (stirred (stirred (stirred x)))
+    else if names_user (draws_from x) (draws_from x).action then stirred (stirred (stirred (stirred x)))
     else stirred (stirred (stirred x))
 
 -- ---- the transcript

@@ -5,8 +5,14 @@
 //! whether two runs, or two versions of the program, say the same.
 #![tactic(auto)]
 
+mod draws;
+mod generator;
+mod printing;
 mod soaking;
+mod source;
+mod summing;
 mod words;
 
+pub use draws::{Action, Draws};
 pub use soaking::soak;
 pub use words::{Soak, soak_of};

@@ -1,15 +1,34 @@
 //! The soak itself.
-ghost use Rattle.std.specs.Prelude.{◌≡◌, ◌⊎◌};
+ghost use Rattle.std.specs.Prelude.{◌≡◌, ◌⊎◌, ℕ, List, IfOk, OnOk, Some, string_bytes};
+ghost use Rattle.std.specs.Io.KnownBytes.{Appends};
+ghost use Rattle.ch_config.specs.Config.{built_in};
 ghost use Rattle.ch_io.specs.Counts.{Rose};
+ghost use Rattle.ch_transcript.specs.Outcomes.{HasOutcome, ends};
 ghost use Rattle.ch_transcript.specs.Replayed.{WritesLast};
-ghost use Rattle.ch_soak.specs.SoakText.{usage_line, Writes, Breaks};
+ghost use Rattle.ch_soak.specs.Drawing.{left_of};
+ghost use Rattle.ch_soak.specs.SoakText.{usage_line, IsSummary, Writes, Breaks};
 ghost use Rattle.ch_soak.specs.SoakWords.{AsksForNone};
 
-use ch_base::Text;
-use ch_io::Sink;
+use crate::printing::{summary, usage_text};
+use crate::source::Drawn;
+use crate::summing::Summing;
+use crate::words::{Soak, soak_of};
+use ch_base::{Memory, Text};
+use ch_config_text::built_in_text;
+use ch_io::{Sink, write_all};
+use ch_replay::replay;
 use std::alloc::Global;
 
-/// The status for want of memory.
+/// The line was written.
+const DONE: u8 = 0;
+
+/// The words ask for no soak.
+const USAGE: u8 = 2;
+
+/// A write failed.
+const WRITE_FAILED: u8 = 6;
+
+/// There was no memory.
 const MEMORY: u8 = 7;
 
 /// Replays the transcript that the words ask for under the built-in configuration, writes one line that sums up its output,
@@ -31,5 +50,49 @@ pub fn soak<K: Sink>(alloc: Global, words: &[Text], sink: &mut K) -> u8
     ensures write_fault { result ≡ 6 → Rose (K.faults sink.old) (K.faults sink.new) }
     ensures memory { result ≡ 7 → sink.new ≡ sink.old }
 {
-    MEMORY
+    let soak = match soak_of(alloc, words) {
+        Ok(Some(soak)) => soak,
+        Ok(None) => {
+            write_usage(sink);
+            return USAGE;
+        }
+        Err(Memory) => return MEMORY,
+    };
+    let Ok(line) = summed(alloc, &soak) else {
+        return MEMORY;
+    };
+    match write_all(sink, line.as_bytes()) {
+        Ok(()) => DONE,
+        Err(_) => WRITE_FAILED,
+    }
+}
+
+/// Writes the usage line. That this fails changes no status.
+fn write_usage<K: Sink>(sink: &mut K)
+    ensures { WritesLast usage_line (K.told sink.old) (K.told sink.new) (Rose (K.faults sink.old) (K.faults sink.new)) }
+{
+    let _ = write_all(sink, usage_text().as_bytes());
+}
+
+/// The line that sums up the output of the soak's transcript.
+fn summed(alloc: Global, soak: &Soak) -> Result<String, Memory>
+    ensures { IfOk result (λ line. IsSummary soak.now (string_bytes line)) }
+{
+    let mut source = Drawn::new(alloc, soak);
+    let mut output = Summing::new(alloc);
+    replay_drawn(alloc, &mut source, &mut output)?;
+    summary(alloc, soak, output)
+}
+
+/// Replays a transcript under the built-in configuration. A read of it fails only where there is no memory for a line, and a
+/// write to what sums up only where there is none to count it.
+fn replay_drawn(alloc: Global, source: &mut Drawn, output: &mut Summing) -> Result<(), Memory>
+    ensures { OnOk result ((text : List ℕ) × HasOutcome built_in (left_of source.old) (ends 0 text) × Appends output.old.held output.new.held text) }
+{
+    let words = [Text::of(alloc, "replay")?];
+    let config = built_in_text().as_bytes();
+    match replay(alloc, &words, Some(config), source, output) {
+        DONE => Ok(()),
+        _ => Err(Memory),
+    }
 }
