@@ -1,5 +1,4 @@
 pub mod Numbers
 pub mod ThreeWords
 pub mod Rounds
-pub mod Passing
 pub mod TwoCounts

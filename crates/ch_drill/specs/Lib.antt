@@ -2,5 +2,4 @@ pub mod DrillWords
 pub mod DrillCounts
 pub mod DrillText
 pub mod DrillLinks
-pub mod AllPasses
 pub mod DrillCloses

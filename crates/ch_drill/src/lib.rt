@@ -6,14 +6,12 @@
 //! interleave (`specs/DrillCounts.antt`), and what is printed ([`drill_text`]).
 #![tactic(auto)]
 
-mod all_passes;
 mod arrivals;
 mod closing;
 mod counts;
 mod printing;
 mod words;
 
-pub use all_passes::{give_passes, take_passes};
 pub use arrivals::arrivals_of;
 pub use closing::is_closed_after;
 pub use counts::{DrillCounts, drill_counts};
