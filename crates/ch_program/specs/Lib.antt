@@ -1,4 +1,5 @@
 pub mod Commands
+pub mod Drills
 pub mod Given
 pub mod Program
 pub mod Replays

@@ -1,8 +1,10 @@
 -- What the program does with its words.
 use Rattle.std.specs.Prelude.{◌&&◌, ◌||◌, ◌==◌, nat_le, ℕ, Bool, List, Option}
+use Rattle.ch_program.specs.Drills.{Drills}
 use Rattle.ch_program.specs.Given.{IsGiven}
 use Rattle.ch_program.specs.Replays.{Replays}
 use Rattle.ch_program.specs.Soaks.{Soaks}
+use Rattle.ch_server.specs.Starts.{Starts}
 use Rattle.ch_program.specs.declared.command.Command.{Command}
 use Rattle.ch_program.specs.declared.command.Command.TheVariants.{Replay, Soak, Drill, Serve}
 
@@ -12,8 +14,9 @@ Does Replay words status left_old left_new told_old told_new write_failed =
     (given : Option (List ℕ)) × IsGiven words given
     × Replays words given status left_old left_new told_old told_new write_failed
 Does Soak words status left_old left_new told_old told_new write_failed = Soaks words status told_old told_new write_failed
-Does Drill words status left_old left_new told_old told_new write_failed = Unit {0}
-Does Serve words status left_old left_new told_old told_new write_failed = Unit {0}
+Does Drill words status left_old left_new told_old told_new write_failed = Drills words status told_old told_new write_failed
+Does Serve words status left_old left_new told_old told_new write_failed =
+    (given : Option (List ℕ)) × IsGiven words given × Starts words given status told_old told_new write_failed
 
 -- the statuses with which the program ends: 0, and 2 to 9
 abbrev pub is_status : ℕ → Bool

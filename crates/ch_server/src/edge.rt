@@ -1,16 +1,17 @@
 //! What a server is made of at the system's side.
-ghost use Rattle.std.specs.Prelude.{◌≡◌, ◌+◌, length, IfOk};
+ghost use Rattle.std.specs.Prelude.{◌≡◌, ◌+◌, length, is_some, IfOk};
 ghost use Rattle.ch_config.specs.Config.{IsConfig};
+ghost use Rattle.ch_post.specs.Requests.{front};
+ghost use Rattle.ch_server.specs.Targets.{authority};
 
 use ch_base::{Memory, Text};
 use ch_config::{Address, Config, Target};
 use ch_post::LinkPost;
 use ch_wswire::{Pauses, Poller, TcpAccept, TcpDial};
 use std::alloc::{AllocError, Global};
-use std::io;
 use std::net::{IpAddr, Ipv4Addr, Net, SocketAddr, TcpStream};
-use std::time;
 use std::time::Duration;
+use std::{io, time};
 
 /// The most connections that a worker serves.
 const CONNECTIONS: usize = 256;
@@ -63,7 +64,8 @@ impl<R: Net<Stream = TcpStream> + time::Clock + Clone> Edge<R> {
     /// Listens at the configuration's address, with a poller for each worker and one for the webhook thread.
     pub fn open(rt: &R, alloc: Global, config: &Config) -> Result<Edge<R>, Unopened>
         requires { IsConfig config.now }
-        ensures { IfOk result (λ edge. length edge.clocks.items ≡ config.now.workers + 1) }
+        ensures clocks { IfOk result (λ edge. length edge.clocks.items ≡ config.now.workers + 1) }
+        ensures post { IfOk result (λ edge. is_some edge.post ≡ is_some config.now.webhook) }
     {
         let threads = config.workers + 1;
         let clocks = pollers(rt, alloc, threads, pauses())?;
@@ -95,12 +97,7 @@ fn socket_address(address: &Address) -> SocketAddr {
 }
 
 /// A poller for each of so many threads.
-pub fn pollers<R>(
-    rt: &R,
-    alloc: Global,
-    threads: u64,
-    pauses: Pauses,
-) -> io::Result<Vec<Poller<R>>>
+pub fn pollers<R>(rt: &R, alloc: Global, threads: u64, pauses: Pauses) -> io::Result<Vec<Poller<R>>>
 where
     R: Net + time::Clock + Clone,
     ensures { IfOk result (λ pollers. length pollers.items ≡ threads) }
@@ -116,6 +113,7 @@ where
 pub fn post_of<R>(rt: &R, alloc: Global, target: &Target) -> Result<LinkPost<TcpDial<R>>, Memory>
 where
     R: Net<Stream = TcpStream> + Clone,
+    ensures { IfOk result (λ post. post.front ≡ front (authority target.now) target.now.path) }
 {
     let host = String::from_str(alloc, target.host.as_str())?;
     let dial = TcpDial::new(rt.clone()?, alloc, host, target.port);
@@ -123,7 +121,9 @@ where
 }
 
 /// The receiver as a request's `Host` field names it (RFC 9110, section 7.2).
-fn authority(alloc: Global, target: &Target) -> Result<Text, Memory> {
+fn authority(alloc: Global, target: &Target) -> Result<Text, Memory>
+    ensures { IfOk result (λ text. text ≡ authority target.now) }
+{
     let host = target.host.as_str();
     let port = target.port;
     Ok(Text::from_string(format!(in alloc; "{host}:{port}")?))

@@ -6,7 +6,7 @@
 
 mod edge;
 mod lines;
-
+mod starting;
 
 pub use edge::{Edge, Unopened, pollers, post_of};
-
+pub use starting::start;

@@ -1,5 +1,5 @@
 //! The command.
-ghost use Rattle.std.specs.Prelude.{◌≡◌};
+ghost use Rattle.std.specs.Prelude.{◌≡◌, ◌+◌, ◌⊎◌, length};
 ghost use Rattle.std.specs.Option.{option_copied};
 ghost use Rattle.ch_config.specs.Config.{IsConfig};
 ghost use Rattle.ch_io.specs.Counts.{Rose};
@@ -72,4 +72,20 @@ where
         }
         Err(Unopened::Memory) => MEMORY,
     }
+}
+
+/// Serves at this edge, until each thread has taken its turns.
+fn serve_at<R>(rt: &R, alloc: Global, config: &Config, edge: Edge<R>) -> u8
+where
+    R: Wait + Threads + Net<Stream = TcpStream> + time::Clock + Clone + Sync + Send,
+    requires config { IsConfig config.now }
+    requires clocks { length edge.clocks.items ≡ config.now.workers + 1 }
+    ensures { (result ≡ 0) ⊎ (result ≡ 7) }
+{
+    let Edge {
+        accept,
+        clocks,
+        post,
+    } = edge;
+    serve(rt, alloc, config, accept, clocks, post, TURNS).status
 }
