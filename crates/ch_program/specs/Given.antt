@@ -1,12 +1,12 @@
 -- The configuration that words name.
-use Rattle.std.specs.Prelude.{◌≡◌, ◌≤◌, ℕ, Bool, false, List, [], ◌∷◌, length, bytes_eq, codes, Option, None, Some, IfSome}
+use Rattle.std.specs.Prelude.{◌≡◌, ◌≤◌, ◌||◌, ℕ, Bool, false, List, [], ◌∷◌, length, bytes_eq, codes, Option, None, Some, IfSome}
 use Rattle.ch_config_text.specs.BuiltIn.{built_in_text}
 use Rattle.ch_program.specs.declared.given.Given.{Given}
 use Rattle.ch_program.specs.declared.given.Given.TheVariants.{BuiltIn, File, Unread}
 
--- the words are `replay` and the path of a file
+-- the words are `replay` or `serve` and the path of a file
 abbrev pub names_file : List (List ℕ) → Bool
-names_file (word ∷ path ∷ []) = bytes_eq word (codes "replay")
+names_file (word ∷ path ∷ []) = bytes_eq word (codes "replay") || bytes_eq word (codes "serve")
 names_file _ = false
 
 -- the longest file of a configuration, in bytes

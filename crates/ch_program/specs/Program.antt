@@ -1,28 +1,23 @@
--- What the program does with its words and the configuration that they name.
-use Rattle.std.specs.Prelude.{◌≡◌, ◌↔◌, ◌&&◌, ◌||◌, ◌==◌, nat_le, ℕ, Bool, true, false, List, [], ◌∷◌, Option, codes, IfOk, IfErr, IsErr}
-use Rattle.ch_replay.specs.ConfigLines.{config_or_line, Declines}
-use Rattle.ch_replay.specs.Words.{is_replay, usage_line}
-use Rattle.ch_config.specs.declared.config.Config.{Config}
-use Rattle.ch_transcript.specs.declared.ending.Ending.{Ending}
-use Rattle.ch_transcript.specs.Replayed.{Ran, WritesLast, status_of}
+-- What the program does with its words.
+use Rattle.std.specs.Prelude.{◌&&◌, ◌||◌, ◌==◌, nat_le, ℕ, Bool, List, Option}
+use Rattle.ch_program.specs.Drills.{Drills}
+use Rattle.ch_program.specs.Given.{IsGiven}
+use Rattle.ch_program.specs.Replays.{Replays}
+use Rattle.ch_program.specs.Soaks.{Soaks}
+use Rattle.ch_server.specs.Starts.{Starts}
+use Rattle.ch_program.specs.declared.command.Command.{Command}
+use Rattle.ch_program.specs.declared.command.Command.TheVariants.{Replay, Soak, Drill, Serve}
 
--- the words that ask for a replay under the built-in configuration
-abbrev pub plain_replay : List (List ℕ)
-plain_replay = codes "replay" ∷ []
+-- what a command comes to, by its words, the status, what was left of the source and what the sink was told
+abbrev pub Does : Command → List (List ℕ) → ℕ → Option (List ℕ) → Option (List ℕ) → Option (List ℕ) → Option (List ℕ) → Type 0 → Type 0
+Does Replay words status left_old left_new told_old told_new write_failed =
+    (given : Option (List ℕ)) × IsGiven words given
+    × Replays words given status left_old left_new told_old told_new write_failed
+Does Soak words status left_old left_new told_old told_new write_failed = Soaks words status told_old told_new write_failed
+Does Drill words status left_old left_new told_old told_new write_failed = Drills words status told_old told_new write_failed
+Does Serve words status left_old left_new told_old told_new write_failed =
+    (given : Option (List ℕ)) × IsGiven words given × Starts words given status told_old told_new write_failed
 
--- a transcript was replayed under the configuration, and the status tells how that ended
-abbrev pub RanUnder : Config → ℕ → Option (List ℕ) → Option (List ℕ) → Option (List ℕ) → Option (List ℕ) → Type 0 → Type 0
-RanUnder config status left_old left_new told_old told_new write_failed =
-    (ending : Ending) × (status ≡ status_of ending) × Ran config left_old left_new told_old told_new write_failed ending
-
--- The status by the words and the bytes of the configuration, with what was read and written.
-pub record Ends (words : List (List ℕ)) (given : Option (List ℕ)) (status : ℕ) (left_old left_new told_old told_new : Option (List ℕ)) (write_failed : Type 0) : Type 0 where
-  pub no_replay : (status ≡ 2) ↔ (is_replay words ≡ false)
-  pub usage : status ≡ 2 → WritesLast usage_line told_old told_new write_failed
-  pub refused : status ≡ 3 → (is_replay words ≡ true) × IsErr (config_or_line given)
-  pub declined : is_replay words ≡ true → IfErr (config_or_line given) (λ line. Declines line status told_old told_new write_failed)
-  pub ran : is_replay words ≡ true → IfOk (config_or_line given) (λ c. RanUnder c status left_old left_new told_old told_new write_failed)
-
--- the statuses with which the program ends: 0, and 2 to 8
+-- the statuses with which the program ends: 0, and 2 to 9
 abbrev pub is_status : ℕ → Bool
-is_status status = status == 0 || (nat_le 2 status && nat_le status 8)
+is_status status = status == 0 || (nat_le 2 status && nat_le status 9)

@@ -38,14 +38,16 @@ impl Given {
     }
 }
 
-/// The configuration for these words: the file's that `replay` names, and the built-in one where it names none. Other words
-/// open no file.
+/// The configuration for these words: the file's that `replay` or `serve` names, and the built-in one where they name none.
+/// Other words open no file.
 pub fn named_config<R: Files + AllocGlobal>(rt: &R, words: &[Text]) -> Result<Given, Memory>
     ensures built_in { names_file words.now ≡ false → result ≡ Ok Given.BuiltIn }
     ensures short { IfOk result (λ given. IfSome (bytes_of given) (λ bytes. length bytes ≤ longest_file)) }
 {
     match words {
-        [word, path] if word.as_str() == "replay" => read_file(rt, path.as_str()),
+        [word, path] if word.as_str() == "replay" || word.as_str() == "serve" => {
+            read_file(rt, path.as_str())
+        }
         _ => Ok(Given::BuiltIn),
     }
 }

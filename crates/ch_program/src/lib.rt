@@ -5,10 +5,12 @@
 //! arguments and the two streams.
 #![tactic(auto)]
 
+mod command;
 mod given;
 mod running;
 mod words;
 
+pub use command::Command;
 pub use given::{Given, named_config};
 pub use running::program;
 pub use words::words_of;

@@ -9,4 +9,4 @@ mod line_reader;
 mod printing;
 mod replaying;
 
-pub use replaying::replay;
+pub use replaying::{decline, replay, write_last};

@@ -79,7 +79,7 @@ pub fn replay<S: Source, K: Sink>(
 }
 
 /// Says what is wrong with the bytes of a configuration, and answers the status.
-fn decline<K: Sink>(alloc: Global, fault: ConfigFault, sink: &mut K) -> u8
+pub fn decline<K: Sink>(alloc: Global, fault: ConfigFault, sink: &mut K) -> u8
     ensures declines { Declines (fault_line fault) result (K.told sink.old) (K.told sink.new) (Rose (K.faults sink.old) (K.faults sink.new)) }
     ensures memory { fault ≡ ConfigFault.Memory → (result ≡ 7) × (sink.new ≡ sink.old) }
 {
@@ -199,7 +199,7 @@ fn end_at<K: Sink>(alloc: Global, sink: &mut K, ending: Ending, number: u64) -> 
 }
 
 /// Writes a last line. That this fails changes no status.
-fn write_last<K: Sink>(sink: &mut K, line: &str)
+pub fn write_last<K: Sink>(sink: &mut K, line: &str)
     ensures names { WritesLast line.now (K.told sink.old) (K.told sink.new) (Rose (K.faults sink.old) (K.faults sink.new)) }
     ensures later { K.faults sink.old ≤ K.faults sink.new }
 {

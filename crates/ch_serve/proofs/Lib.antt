@@ -1,0 +1,4 @@
+pub mod Arriving
+pub mod Turning
+pub mod Gathering
+pub mod Places

@@ -1,0 +1,7 @@
+use Rattle.std.proofs.Common.{◌≡◌, ℕ, ◌<◌, ◌≤◌, Some}
+use Rattle.std.specs.Prelude.{slice_get}
+use Rattle.ch_house.specs.declared.counts.ShardCount.{ShardCount}
+use Rattle.ch_serve.proofs.counting.each_user_has.Given as goal
+
+abbrev pub invariant-loop-shard : goal.invariant-loop-shard
+invariant-loop-shard l = (k : ℕ) (n : ShardCount) → k < l.shard → slice_get l.closed.users k ≡ Some n → l.entries ≤ n.entries

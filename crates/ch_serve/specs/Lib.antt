@@ -1,0 +1,4 @@
+pub mod Accepting
+pub mod Webhooks
+pub mod Served
+pub mod Words
