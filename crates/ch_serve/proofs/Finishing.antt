@@ -53,16 +53,16 @@ worked config turns start house threads done workers mid back new W own last fre
     record {
       count = given.count ∙ all;
       each = λ i w at.
-        let within : i < length done = omega (arith, slice_get_within workers i w at, given.count) in
-        let t = get_within done i within in
-        let old = get_within threads i (omega (arith, turned.0)) in
-        let back_i = given.each i t.0 within t.1 in
-        let worker : t.0.worker ≡ w = same_Some t.0.worker w (sym back_i.1 ∙ at) in
-        let went : Turned turns (seat (new_worker config start) (fresh_passes house i)) t.0 = subst (λ (s : Seat). Turned turns s t.0) (fresh i old.0 old.1) (turned.1 i old.0 t.0 old.1 t.1) in (
-          t.0.passes,
-          ap (λ l. get_or l i None) slots ∙ (get_or-set_other back.slots config.workers i (Some last) None (λ e. omega arith) ∙ back_i.0),
-          subst (λ (v : WorkerView). Turned turns (seat (new_worker config start) (fresh_passes house i)) (seat v t.0.passes)) worker went,
-        );
+          let within : i < length done = omega (arith, slice_get_within workers i w at, given.count) in
+          let t = get_within done i within in
+          let old = get_within threads i (omega (arith, turned.0)) in
+          let back_i = given.each i t.0 within t.1 in
+          let worker : t.0.worker ≡ w = same_Some t.0.worker w (sym back_i.1 ∙ at) in
+          let went : Turned turns (seat (new_worker config start) (fresh_passes house i)) t.0 = subst (λ (s : Seat). Turned turns s t.0) (fresh i old.0 old.1) (turned.1 i old.0 t.0 old.1 t.1) in (
+            t.0.passes,
+            ap (λ l. get_or l i None) slots ∙ (get_or-set_other back.slots config.workers i (Some last) None (λ e. omega arith) ∙ back_i.0),
+            subst (λ (v : WorkerView). Turned turns (seat (new_worker config start) (fresh_passes house i)) (seat v t.0.passes)) worker went,
+          );
       webhooks = (
         last,
         ap (λ l. get_or l config.workers None) slots ∙ get_or-set_same back.slots config.workers (Some last) None (omega (arith, given.size)),
@@ -106,9 +106,9 @@ module _ {P : Type 0} where
       webhooks = (w.webhooks.0, w.webhooks.1, ran config start turns post sending _ w.webhooks.0 sends w.webhooks.2);
     };
     turns_now = λ k d below.
-      let one = w.each k (get_or workers k d) (there workers k d below) in
-      let fits : raised 0 turns ≡ turns = omega arith in
-      one.2.turns_now ∙ fits;
+        let one = w.each k (get_or workers k d) (there workers k d below) in
+        let fits : raised 0 turns ≡ turns = omega arith in
+        one.2.turns_now ∙ fits;
     chans = chans;
     users = users;
     chan_shards = count.0 ∙ sharded.chans;

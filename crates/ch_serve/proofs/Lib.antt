@@ -5,3 +5,4 @@ pub mod Places
 pub mod NewThreads
 pub mod GivingBack
 pub mod Finishing
+pub mod Numbering

@@ -16,7 +16,7 @@ loop-number-preserved g c =
     let site = c.args.site.now in
     let thread = seat c.in_ok-new.field-0 c.new.result in
     let own : c.in-Some-take.own ≡ fresh_passes site.house.now n =
-        same_Some c.in-Some-take.own (fresh_passes site.house.now n) (c.in-Some-take.ensures.taken ∙ (inv.left n (omega arith) ∙ c.requires.passes n within)) in
+    same_Some c.in-Some-take.own (fresh_passes site.house.now n) (c.in-Some-take.ensures.taken ∙ (inv.left n (omega arith) ∙ c.requires.passes n within)) in
     record {
       house = ap (λ l. l.house) c.take.ensures.rest ∙ inv.house;
       size = ap length slots ∙ (length-set c.loop-number.passes.slots n None ∙ inv.size);

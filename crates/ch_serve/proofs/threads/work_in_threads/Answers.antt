@@ -19,8 +19,8 @@ pub returns : goal.returns
 returns g c = (
   c.for_each_mut.auto.s,
   λ i s t old new.
-    let k = (c.for_each_mut.ensures i s (slice_get_within c.args.workers.now i s old)).1 in
-    let was = k.argument_is ∙ get_or_from_slice_get c.args.workers.now i s s old in
-    let left = k.left ∙ get_or_from_slice_get c.for_each_mut.new.s i t s new in
-    subst (λ (x : Seat). Turned c.args.turns s x) left (subst (λ (x : Seat). Turned c.args.turns x k.after_call.now) was k.call),
+      let k = (c.for_each_mut.ensures i s (slice_get_within c.args.workers.now i s old)).1 in
+      let was = k.argument_is ∙ get_or_from_slice_get c.args.workers.now i s s old in
+      let left = k.left ∙ get_or_from_slice_get c.for_each_mut.new.s i t s new in
+      subst (λ (x : Seat). Turned c.args.turns s x) left (subst (λ (x : Seat). Turned c.args.turns x k.after_call.now) was k.call),
 )
