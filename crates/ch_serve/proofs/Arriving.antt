@@ -14,4 +14,4 @@ module _ {L : Type 0} where
   -- a connection that waits in the intake has come
   pub waits_next : (caller : ℕ) (item : Numbered L) (old new : Door L) → GrowsBy (Push caller item) old.seen new.seen → item.arrival.number ≡ old.numbered + 1
       → new.numbered ≡ old.numbered + 1 → (came : Came L) × Comes caller came old new
-  waits_next caller item old new grows number numbered = (waits item, number, numbered, grows)
+  waits_next caller item old new grows number numbered = (waits item, (number, numbered, grows))

@@ -22,7 +22,7 @@ module _ {X : Type 0} where
   left_next was xs ys n v is before i above = ap (λ (l : List (Option X)). get_or l i None) is
       ∙ (get_or-set_other xs n i v None (λ e. omega arith) ∙ before i (omega arith))
 
-  there : (xs : List X) (k : ℕ) (d : X) → k < length xs → slice_get xs k ≡ Some (get_or xs k d)
+  pub there : (xs : List X) (k : ℕ) (d : X) → k < length xs → slice_get xs k ≡ Some (get_or xs k d)
   there [] k d h = absurd (omega arith)
   there (x ∷ xs) zero d h = refl
   there (x ∷ xs) (suc k) d h = there xs k d (omega arith)

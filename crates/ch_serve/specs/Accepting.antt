@@ -1,8 +1,8 @@
 -- How connections come in and are numbered.
-use Rattle.std.specs.Prelude.{◌≡◌, ◌+◌, ◌<◌, ◌≤◌, ◌==◌, ℕ, List, [], ◌∷◌, ◌++◌, map, All, if◌then◌else◌}
+use Rattle.std.specs.Prelude.{◌≡◌, ◌+◌, ◌<◌, ◌≤◌, ◌==◌, ℕ, List, [], ◌∷◌, map, All, if◌then◌else◌}
 use Rattle.ch_intake.specs.declared.step.Step.{Step}
 use Rattle.ch_intake.specs.declared.step.Step.TheVariants.{Push, Pop}
-use Rattle.ch_intake.specs.Orders.{GrowsBy, HeldOnce, IsLegal}
+use Rattle.ch_intake.specs.Orders.{GrowsBy, HeldOnce}
 use Rattle.ch_intake.specs.PassModels.{PassModel}
 use Rattle.ch_serve.specs.declared.numbered.Numbered.{Numbered}
 

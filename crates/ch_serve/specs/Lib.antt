@@ -1,4 +1,5 @@
 pub mod Accepting
 pub mod Webhooks
 pub mod Served
+pub mod GivenBack
 pub mod Words

@@ -1,5 +1,5 @@
 -- What the webhook thread does at its desk.
-use Rattle.std.specs.Prelude.{◌≡◌, ℕ, List, Option, MatchOption, flat_map, length}
+use Rattle.std.specs.Prelude.{◌≡◌, ℕ, List, Option, Some, None, MatchOption, flat_map, length}
 use Rattle.ch_batch.specs.Deeds.{Deed}
 use Rattle.ch_batch.specs.Gathers.{takes}
 use Rattle.ch_batch.specs.Laws.{Collects}
@@ -27,6 +27,10 @@ pub record Drops (rounds : ℕ) (old new : DeskView) : Type 0 where
   pub asks : asks_of asked ≡ flat_map (λ now. takes now old.chan_shards) moments
   pub calls : Makes asked old new
 
+-- who sends the webhooks of a configuration's app
+abbrev pub sender_of : Config → ℕ → Sender
+sender_of config start = record { key = config.key; secret = config.secret; start = start }
+
 module _ {P : Type 0} where
   -- the webhook thread's rounds at its desk, where it stays: with a batcher it made batches, without it dropped the events
   pub record Rounds (rounds : ℕ) (sending : Option (Sending P)) (desk desk_after : PassesModel) : Type 0 where
@@ -35,6 +39,7 @@ module _ {P : Type 0} where
     pub house : desk_after.house ≡ desk.house
     pub caller : desk_after.caller ≡ desk.caller
 
--- who sends the webhooks of a configuration's app
-abbrev pub sender_of : Config → ℕ → Sender
-sender_of config start = record { key = config.key; secret = config.secret; start = start }
+  -- there is a new batcher of the configuration's app exactly where there is a post
+  abbrev pub SendsFor : Config → ℕ → Option P → Option (Sending P) → Type 0
+  SendsFor config start post sending = MatchOption post (sending ≡ None)
+      (λ p. (s : Sending P) × (sending ≡ Some s) × (s.batcher.state ≡ nothing_yet (sender_of config start)))

@@ -12,7 +12,10 @@ pub struct Bells<W: Wake + Drop> {
 
 impl<W: Wake + Drop> Bells<W> {
     /// The bells of the threads with these clocks.
-    pub fn of<L: Link, C: Park<L, Waker = W>>(alloc: Global, clocks: &[C]) -> Result<Bells<W>, Memory> {
+    pub fn of<L: Link, C: Park<L, Waker = W>>(
+        alloc: Global,
+        clocks: &[C],
+    ) -> Result<Bells<W>, Memory> {
         let mut wakers = Vec::new(alloc);
         for clock in clocks {
             wakers.push(clock.waker()?)?;

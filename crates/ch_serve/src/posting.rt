@@ -1,19 +1,21 @@
 //! The thread that sends webhooks.
-ghost use Rattle.std.specs.Prelude.{◌≡◌, List};
+ghost use Rattle.std.specs.Prelude.{◌≡◌, List, IfOk};
 ghost use Rattle.ch_batch.specs.Gathers.{takes};
 ghost use Rattle.ch_desk.specs.OwnEntries.{Makes};
 ghost use Rattle.ch_history.specs.Limits.{IsMoment};
 ghost use Rattle.ch_house.specs.DeskViews.{view_of};
 ghost use Rattle.ch_protocol.specs.Asks.{Asked, asks_of};
-ghost use Rattle.ch_serve.specs.Webhooks.{Drops, Gathers, Rounds};
+ghost use Rattle.ch_serve.specs.Webhooks.{Drops, Gathers, Rounds, SendsFor};
 
 use ch_base::{ChanCall, Memory};
 use ch_batch::{Batcher, Step, gathers_chain};
+use ch_config::Config;
 use ch_desk::{Ask, Desk, calls_chain, make};
 use ch_edge::{Park, Pause};
 use ch_house::{HouseDesk, names_tell_houses};
 use ch_io::Post;
 use ch_net::Link;
+use std::alloc::Global;
 use std::sync::Wait;
 
 /// The webhooks of an app on their way, and where they are posted.
@@ -124,5 +126,23 @@ fn drop_events<R: Wait>(rt: &R, desk: &mut HouseDesk<'_>, now: u64)
             call: ChanCall::TakeHooks { at: now },
         };
         let _ = make(rt, desk, &ask);
+    }
+}
+
+/// The batcher of a configuration's app, of a server that started at the second `start`, with where it posts.
+pub(crate) fn sending_of<P: Post + Drop>(
+    alloc: Global,
+    config: &Config,
+    start: u64,
+    post: Option<P>,
+) -> Result<Option<Sending<P>>, Memory>
+    ensures { IfOk result (λ sending. SendsFor config.now start post sending) }
+{
+    match post {
+        Some(post) => {
+            let batcher = Batcher::new(alloc, &config.key, &config.secret, start)?;
+            Ok(Some(Sending { batcher, post }))
+        }
+        None => Ok(None),
     }
 }

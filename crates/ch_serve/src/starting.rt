@@ -19,8 +19,10 @@ use ch_net::Link;
 use ch_worker::{NoGate, Worker};
 use std::alloc::Global;
 
-/// Where the threads work: the house of shards, the intake, the configuration, and the second of the start.
+/// Where the threads work: the allocator, the house of shards, the intake, the configuration, and the second of the start.
+#[derive(Drop)]
 pub(crate) struct Site<'a, L: Link> {
+    pub alloc: Global,
     pub house: &'a House,
     pub intake: &'a Intake<Numbered<L>>,
     pub config: &'a Config,
@@ -29,7 +31,6 @@ pub(crate) struct Site<'a, L: Link> {
 
 /// A worker's thread for each of the clocks, in order, with the passes of its number.
 pub(crate) fn worker_threads<'a, L: Link, C: Park<L> + Drop>(
-    alloc: Global,
     site: &Site<'a, L>,
     passes: &mut PassesList,
     slots: &mut IntakePasses<Numbered<L>>,
@@ -40,6 +41,7 @@ pub(crate) fn worker_threads<'a, L: Link, C: Park<L> + Drop>(
     requires passes { (i : ℕ) → i < length clocks.items → slice_index_or passes.old.slots i None ≡ Some (fresh_passes site.now.house.now i) }
     requires slots { (i : ℕ) → i < length clocks.items → slice_index_or slots.old.slots i None ≡ Some (fresh_pass site.now.intake.now i) }
     ensures own { (passes.new.house ≡ passes.old.house) × (slots.new.intake ≡ slots.old.intake) }
+    ensures size { length passes.new.slots ≡ length passes.old.slots }
     ensures taken { OnOk result ((i : ℕ) → i < length clocks.items → slice_index_or passes.new.slots i None ≡ None) }
     ensures left { OnOk result ((i : ℕ) → length clocks.items ≤ i → slice_index_or passes.new.slots i None ≡ slice_index_or passes.old.slots i None) }
     ensures slots_left { OnOk result ((i : ℕ) → length clocks.items ≤ i → slice_index_or slots.new.slots i None ≡ slice_index_or slots.old.slots i None) }
@@ -48,7 +50,7 @@ pub(crate) fn worker_threads<'a, L: Link, C: Park<L> + Drop>(
         → t ≡ seat (new_worker site.now.config.now site.now.start) (fresh_passes site.now.house.now i)) }
 {
     let count = clocks.len() as u64;
-    let mut threads = Vec::new(alloc);
+    let mut threads = Vec::new(site.alloc);
     let mut clocks = clocks.into_iter();
     for number in 0..count {
         let Some(clock) = clocks.next() else {
@@ -62,7 +64,7 @@ pub(crate) fn worker_threads<'a, L: Link, C: Park<L> + Drop>(
         };
         threads.push(WorkerThread {
             desk: NotedDesk::new(site.house, own),
-            worker: Worker::new(alloc, site.config, site.start, NoGate)?,
+            worker: Worker::new(site.alloc, site.config, site.start, NoGate)?,
             arrivals: IntakeArrivals::new(site.intake, slot, clock),
         })?;
     }

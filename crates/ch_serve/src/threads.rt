@@ -1,6 +1,6 @@
 //! All threads of a server, at once.
 ghost use Rattle.std.specs.Prelude.{◌+◌, ◌≤◌, ◌^◌, All};
-ghost use Rattle.ch_serve.specs.Served.{AllTurned, IsSeated};
+ghost use Rattle.ch_serve.specs.Served.{AllTurned, IsSeated, Turned};
 ghost use Rattle.ch_serve.specs.Webhooks.{Rounds};
 
 use crate::accepting::AcceptingThread;
@@ -13,48 +13,73 @@ use ch_net::Link;
 use std::sync::Wait;
 use std::thread::{Threads, for_each_mut, join};
 
-/// The threads, before they start.
-#[derive(Drop)]
-pub(crate) struct Crew<'a, A: Accept, P: Post, C: Park<A::Conn>> {
-    pub accepting: AcceptingThread<'a, A>,
-    pub workers: Vec<WorkerThread<'a, A::Conn, C>>,
-    pub webhooks: WebhookThread<'a, P, C>,
-}
-
-/// Runs each thread for so many turns, and answers what the workers and the webhook thread are then.
-pub(crate) fn run_all<'a, R, A, P, C>(
+/// Each of the workers turns in a thread of its own, so many times, while another thread accepts and a third sends webhooks.
+pub(crate) fn run_all<'a, 'b, 'c, R, L, A, P, C>(
     rt: &R,
     bells: &Bells<C::Waker>,
-    crew: Crew<'a, A, P, C>,
+    workers: Vec<WorkerThread<'a, L, C>>,
+    others: (AcceptingThread<'b, A>, WebhookThread<'c, P, C>),
     turns: u64,
-) -> (Vec<WorkerThread<'a, A::Conn, C>>, WebhookThread<'a, P, C>)
+) -> (Vec<WorkerThread<'a, L, C>>, WebhookThread<'c, P, C>)
 where
     R: Wait + Threads + Sync,
-    A: Accept + Send + Drop,
-    A::Conn: Send,
-    <A::Conn as Link>::Wire: Send,
+    L: Link + Send,
+    L::Wire: Send,
+    A: Accept<Conn = L> + Send + Drop,
     P: Post + Drop,
-    C: Park<A::Conn> + Send + Drop,
+    C: Park<L> + Send + Drop,
     C::Waker: Send + Sync,
-    requires numbered { crew.accepting.numbered + turns ≤ 2 ^ 62 }
-    requires desks { All IsSeated crew.workers.items }
-    ensures workers { AllTurned turns crew.entry.workers.items result.0.items }
-    ensures webhooks { Rounds turns crew.entry.webhooks.sending crew.entry.webhooks.desk result.1.desk }
+    requires numbered { others.0.numbered + turns ≤ 2 ^ 62 }
+    requires desks { All IsSeated workers.items }
+    ensures workers { AllTurned turns workers.entry.items result.0.items }
+    ensures webhooks { Rounds turns others.entry.1.sending others.entry.1.desk result.1.desk }
 {
-    let Crew {
-        accepting,
-        workers,
-        webhooks,
-    } = crew;
-    let ((), rest) = join(
+    let (accepting, webhooks) = others;
+    join(
         rt,
-        move || accept_for(rt, bells, accepting, turns),
-        move || serve_and_post(rt, bells, workers, webhooks, turns),
-    );
-    rest
+        move || -> Vec<WorkerThread<'_, L, C>>
+            requires { All IsSeated workers.items }
+            ensures { AllTurned turns workers.entry.items result.items }
+        { work_for(rt, bells, workers, turns) },
+        move || -> WebhookThread<'_, P, C>
+            requires { accepting.numbered + turns ≤ 2 ^ 62 }
+            ensures { Rounds turns webhooks.entry.sending webhooks.entry.desk result.desk }
+        { accept_and_post(rt, bells, accepting, webhooks, turns) },
+    )
 }
 
-/// The accepting thread's turns.
+/// The turns of the accepting thread, and beside them those of the webhook thread.
+fn accept_and_post<'a, R, L, A, P, C>(
+    rt: &R,
+    bells: &Bells<C::Waker>,
+    accepting: AcceptingThread<'_, A>,
+    webhooks: WebhookThread<'a, P, C>,
+    turns: u64,
+) -> WebhookThread<'a, P, C>
+where
+    R: Wait + Threads + Sync,
+    L: Link + Send,
+    L::Wire: Send,
+    A: Accept<Conn = L> + Send + Drop,
+    P: Post + Drop,
+    C: Park<L> + Send + Drop,
+    C::Waker: Send + Sync,
+    requires { accepting.numbered + turns ≤ 2 ^ 62 }
+    ensures { Rounds turns webhooks.entry.sending webhooks.entry.desk result.desk }
+{
+    let ((), webhooks) = join(
+        rt,
+        move ||
+            requires { accepting.numbered + turns ≤ 2 ^ 62 }
+        { accept_for(rt, bells, accepting, turns) },
+        move || -> WebhookThread<'_, P, C>
+            ensures { Rounds turns webhooks.entry.sending webhooks.entry.desk result.desk }
+        { post_for::<R, L, P, C>(rt, webhooks, turns) },
+    );
+    webhooks
+}
+
+/// The turns of the accepting thread.
 fn accept_for<R: Wait, A: Accept + Drop, W: Wake + Drop>(
     rt: &R,
     bells: &Bells<W>,
@@ -66,33 +91,19 @@ fn accept_for<R: Wait, A: Accept + Drop, W: Wake + Drop>(
     accepting.run(rt, bells, turns);
 }
 
-/// The turns of the workers, and of the webhook thread beside them.
-fn serve_and_post<'a, R, L, P, C>(
+/// The turns of the webhook thread.
+fn post_for<'a, R: Wait, L: Link, P: Post + Drop, C: Park<L> + Drop>(
     rt: &R,
-    bells: &Bells<C::Waker>,
-    workers: Vec<WorkerThread<'a, L, C>>,
-    webhooks: WebhookThread<'a, P, C>,
+    mut webhooks: WebhookThread<'a, P, C>,
     turns: u64,
-) -> (Vec<WorkerThread<'a, L, C>>, WebhookThread<'a, P, C>)
-where
-    R: Wait + Threads + Sync,
-    L: Link + Send,
-    L::Wire: Send,
-    P: Post + Drop,
-    C: Park<L> + Send + Drop,
-    C::Waker: Send + Sync,
-    requires { All IsSeated workers.items }
-    ensures workers { AllTurned turns workers.entry.items result.0.items }
-    ensures webhooks { Rounds turns webhooks.entry.sending webhooks.entry.desk result.1.desk }
+) -> WebhookThread<'a, P, C>
+    ensures { Rounds turns webhooks.entry.sending webhooks.entry.desk result.desk }
 {
-    join(
-        rt,
-        move || work_for(rt, bells, workers, turns),
-        move || post_for::<R, L, P, C>(rt, webhooks, turns),
-    )
+    webhooks.run::<R, L>(rt, turns);
+    webhooks
 }
 
-/// The workers' turns, each worker's in a thread of its own.
+/// The turns of the workers.
 fn work_for<'a, R, L, C>(
     rt: &R,
     bells: &Bells<C::Waker>,
@@ -108,23 +119,30 @@ where
     requires { All IsSeated workers.items }
     ensures { AllTurned turns workers.entry.items result.items }
 {
-    let threads = workers.len();
-    if threads > 0 {
-        for_each_mut(rt, workers.as_mut_slice(), threads, &|_, worker| {
-            worker.run(rt, bells, turns)
-        });
-    }
+    work_in_threads(rt, bells, workers.as_mut_slice(), turns);
     workers
 }
 
-/// The webhook thread's rounds.
-fn post_for<'a, R: Wait, L: Link, P: Post + Drop, C: Park<L> + Drop>(
+/// The turns of the workers, each worker's in a thread of its own.
+fn work_in_threads<R, L, C>(
     rt: &R,
-    mut webhooks: WebhookThread<'a, P, C>,
+    bells: &Bells<C::Waker>,
+    workers: &mut [WorkerThread<'_, L, C>],
     turns: u64,
-) -> WebhookThread<'a, P, C>
-    ensures { Rounds turns webhooks.entry.sending webhooks.entry.desk result.desk }
+)
+where
+    R: Wait + Threads + Sync,
+    L: Link + Send,
+    L::Wire: Send,
+    C: Park<L> + Send + Drop,
+    C::Waker: Send + Sync,
+    requires { All IsSeated workers.old }
+    ensures { AllTurned turns workers.old workers.new }
 {
-    webhooks.run::<R, L>(rt, turns);
-    webhooks
+    let threads = workers.len().max(1);
+    let turn = move |_place: usize, worker: &mut WorkerThread<'_, L, C>|
+        requires { IsSeated worker.now }
+        ensures { Turned turns worker.entry.now worker.exit.now }
+    { worker.run(rt, bells, turns) };
+    for_each_mut(rt, workers, threads, &turn);
 }

@@ -1,5 +1,5 @@
-use Rattle.std.proofs.Common.{◌≡◌, ◌+◌, ◌≤◌, ℕ, List, [], ◌∷◌, ◌++◌, length, refl, subst, ◌∙◌, arith, length-append}
-use Rattle.ch_serve.specs.Accepting.{Came, Comes, door}
+use Rattle.std.proofs.Common.{ℕ, [], ◌∷◌, ◌++◌, refl, subst, ◌∙◌, arith, length-append}
+use Rattle.ch_serve.specs.Accepting.{Comes, door}
 use Rattle.ch_serve.proofs.Arriving.{all_come-more}
 use Rattle.ch_serve.proofs.accepting.AcceptingThread.run.Goals as goal
 
