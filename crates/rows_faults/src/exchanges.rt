@@ -70,7 +70,7 @@ fn a_call_of_a_link_that_fails_is_told(rt: HostRuntime) -> Result<(), Fail> {
         let mut exchange = Exchange::new(alloc, link_of(alloc, TRIGGER, script)?, 1_000_000);
         let turn = last_turn(&rt, &mut exchange, &mut bench, &config);
         assert_eq!(rt; turn, ExTurn::Fault);
-        assert_eq!(rt; letters(alloc, bench.shard(0))?.as_str(), calls);
+        assert_eq!(rt; letters(alloc, &bench)?.as_str(), calls);
         assert!(rt; exchange.link.written().is_empty());
     }
     Ok(())
@@ -89,6 +89,6 @@ fn a_trigger_that_finds_no_memory_is_told_so(rt: HostRuntime) -> Result<(), Fail
     assert_eq!(rt; turn, ExTurn::Done);
     assert_eq!(rt; exchange.link.written(), OUT_OF_MEMORY.as_bytes());
     assert_eq!(rt; desk.number, 3);
-    assert_eq!(rt; letters(alloc, desk.desk.shard(0))?.as_str(), "PP");
+    assert_eq!(rt; letters(alloc, &desk.desk)?.as_str(), "PP");
     Ok(())
 }

@@ -1,12 +1,19 @@
-//! The calls that a channel shard served.
-use ch_shard::ChanShard;
+//! What the shards of a bench served, and what is open on them.
+use ch_desk::Bench;
 use std::alloc::{AllocError, Global};
 
-/// The letters of the shard's calls, the oldest first: `J` for a Join, `P` for a Publish, `T` for a Take and `X` for a loss.
-pub fn letters(alloc: Global, shard: &ChanShard) -> Result<String, AllocError> {
+/// The letters of the calls on the first channel shard, the oldest first: `J` for a Join, `P` for a Publish, `T` for a Take and `X`
+/// for a loss.
+pub fn letters(alloc: Global, bench: &Bench) -> Result<String, AllocError> {
+    let shard = bench.shard(0);
     let mut letters = String::new(alloc);
     for i in 0..shard.tail_len() {
         letters.push(char::from(shard.tail_at(i).letter))?;
     }
     Ok(letters)
+}
+
+/// How many sign-ins last on the first user shard.
+pub fn sign_ins(bench: &Bench) -> u64 {
+    bench.user_shard(0).open_signs()
 }

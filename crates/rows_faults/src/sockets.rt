@@ -1,10 +1,13 @@
 //! Live sockets at a desk that is short of memory, and over a wire that is silent.
 ghost use Rattle.std.specs.Prelude.{IfOk};
 ghost use Rattle.ch_config.specs.Config.{IsConfig};
+ghost use Rattle.ch_desk.specs.Bench.{view_of};
+ghost use Rattle.ch_desk.specs.Views.{IsDeskOf};
+ghost use Rattle.ch_live.specs.Losses.{MayLose};
 ghost use Rattle.ch_live.specs.Peers.{IsPeerOver};
 
-use crate::letters::letters;
-use ch_base::{Memory, Text};
+use crate::letters::{letters, sign_ins};
+use ch_base::Text;
 use ch_config::Config;
 use ch_desk::{Bench, NumberList, Starved};
 use ch_live::{End, Farewell, Live, Turn};
@@ -59,6 +62,14 @@ fn live_of(
     }
 }
 
+/// The end of a connection with this code, of which the socket was told.
+fn ended(code: u16) -> Turn {
+    Turn::Ended(End::Code {
+        code,
+        farewell: Farewell::Sent,
+    })
+}
+
 /// Whether the wire was sent these texts.
 fn has_sent(wire: &MemWire, texts: &[&str]) -> bool {
     let sent = wire.sent();
@@ -69,26 +80,53 @@ fn has_sent(wire: &MemWire, texts: &[&str]) -> bool {
             .all(|(text, wanted)| text.as_str() == *wanted)
 }
 
+/// A bench of which the call with this number, counted from 0, finds no memory.
+fn starved_bench(alloc: Global, config: &Config, number: u64) -> Result<Starved<Bench>, Fail>
+    requires { IsConfig config.now }
+    ensures { IfOk result (λ desk. IsDeskOf config.now (view_of desk.desk)) }
+{
+    let bench = Bench::new(alloc, config.chan_shards, config.user_shards)?;
+    Ok(Starved::new(bench, NumberList::new(vec![in alloc; number]?)))
+}
+
+/// Takes a turn at the moment 0.
+fn turn<R>(rt: &R, live: &mut Live<MemWire>, desk: &mut Starved<Bench>, config: &Config) -> Turn
+    requires config { IsConfig config.now }
+    requires desk { IsDeskOf config.now (view_of desk.old.desk) }
+    requires over { IsPeerOver config.now live.old.peer }
+    ensures desk { IsDeskOf config.now (view_of desk.new.desk) }
+    ensures over { IsPeerOver config.now live.new.peer }
+    ensures may { MayLose live.new.peer (view_of desk.new.desk) }
+{
+    live.turn(rt, desk, config, 0)
+}
+
+/// Makes the losses that the socket owes, and answers whether there was memory for them and whether it still owes some.
+fn lose<R>(rt: &R, live: &mut Live<MemWire>, desk: &mut Starved<Bench>) -> (bool, bool)
+    requires { MayLose live.old.peer (view_of desk.old.desk) }
+    ensures { MayLose live.new.peer (view_of desk.new.desk) }
+{
+    let made = live.lose(rt, desk, 0).is_ok();
+    (made, live.owes())
+}
+
 #[test]
 fn a_loss_that_found_no_memory_is_made_later(rt: HostRuntime) -> Result<(), Fail> {
     let alloc: Global = rt.alloc();
     let config = Config::built_in(alloc)?;
-    let bench = Bench::new(alloc, config.chan_shards, config.user_shards)?;
     // The calls are a Join, a SignIn, a Lost on each of the two shards, and the last one again.
-    let mut desk = Starved::new(bench, NumberList::new(vec![in alloc; 3]?));
+    let mut desk = starved_bench(alloc, &config, 3)?;
     let mut live = live_of(alloc, &config, &[SUBSCRIBE, SIGN_IN], OtherSide::HangsUp)?;
-    assert_eq!(rt; live.turn(&rt, &mut desk, &config, 0), Turn::Moved);
-    assert_eq!(rt; live.turn(&rt, &mut desk, &config, 0), Turn::Moved);
-    let turn = live.turn(&rt, &mut desk, &config, 0);
-    assert_eq!(rt; turn, Turn::Ended(End::Peer));
-    assert_eq!(rt; live.lose(&rt, &mut desk, 0), Err(Memory));
-    assert!(rt; live.owes());
-    assert_eq!(rt; desk.desk.user_shard(0).open_signs(), 1);
-    assert_eq!(rt; live.lose(&rt, &mut desk, 0), Ok(()));
-    assert!(rt; !live.owes());
+    turn(&rt, &mut live, &mut desk, &config);
+    turn(&rt, &mut live, &mut desk, &config);
+    let last = turn(&rt, &mut live, &mut desk, &config);
+    assert_eq!(rt; last, Turn::Ended(End::Peer));
+    assert_eq!(rt; lose(&rt, &mut live, &mut desk), (false, true));
+    assert_eq!(rt; sign_ins(&desk.desk), 1);
+    assert_eq!(rt; lose(&rt, &mut live, &mut desk), (true, false));
+    assert_eq!(rt; sign_ins(&desk.desk), 0);
+    assert_eq!(rt; letters(alloc, &desk.desk)?.as_str(), "JX");
     assert_eq!(rt; desk.number, 5);
-    assert_eq!(rt; letters(alloc, desk.desk.shard(0))?.as_str(), "JX");
-    assert_eq!(rt; desk.desk.user_shard(0).open_signs(), 0);
     Ok(())
 }
 
@@ -96,22 +134,16 @@ fn a_loss_that_found_no_memory_is_made_later(rt: HostRuntime) -> Result<(), Fail
 fn a_watch_that_finds_no_memory_ends_its_socket(rt: HostRuntime) -> Result<(), Fail> {
     let alloc: Global = rt.alloc();
     let config = Config::built_in(alloc)?;
-    let bench = Bench::new(alloc, config.chan_shards, config.user_shards)?;
     // The calls are a SignIn, a Watch and a Lost.
-    let mut desk = Starved::new(bench, NumberList::new(vec![in alloc; 1]?));
+    let mut desk = starved_bench(alloc, &config, 1)?;
     let mut live = live_of(alloc, &config, &[SIGN_IN_AND_WATCH], OtherSide::Stays)?;
-    let turn = live.turn(&rt, &mut desk, &config, 0);
-    let ended = Turn::Ended(End::Code {
-        code: 4200,
-        farewell: Farewell::Sent,
-    });
-    assert_eq!(rt; turn, ended);
+    let last = turn(&rt, &mut live, &mut desk, &config);
+    assert_eq!(rt; last, ended(4200));
     assert!(rt; has_sent(&live.wire, &[OPENED, NO_MEMORY]));
-    assert_eq!(rt; desk.desk.user_shard(0).open_signs(), 1);
-    assert_eq!(rt; live.lose(&rt, &mut desk, 0), Ok(()));
+    assert_eq!(rt; sign_ins(&desk.desk), 1);
+    assert_eq!(rt; lose(&rt, &mut live, &mut desk), (true, false));
+    assert_eq!(rt; sign_ins(&desk.desk), 0);
     assert_eq!(rt; desk.number, 3);
-    assert_eq!(rt; desk.desk.user_shard(0).open_signs(), 0);
-    assert_eq!(rt; letters(alloc, desk.desk.shard(0))?.as_str(), "");
     Ok(())
 }
 
@@ -125,11 +157,7 @@ fn a_silent_wire_ends_its_socket(rt: HostRuntime) -> Result<(), Fail> {
     assert_eq!(rt; live.turn(&rt, &mut bench, &config, 120_000), Turn::Moved);
     assert_eq!(rt; live.turn(&rt, &mut bench, &config, 149_999), Turn::Idle);
     let turn = live.turn(&rt, &mut bench, &config, 150_000);
-    let ended = Turn::Ended(End::Code {
-        code: 4201,
-        farewell: Farewell::Sent,
-    });
-    assert_eq!(rt; turn, ended);
+    assert_eq!(rt; turn, ended(4201));
     assert!(rt; has_sent(&live.wire, &[OPENED, PING, NO_PONG]));
     assert!(rt; !live.owes());
     Ok(())

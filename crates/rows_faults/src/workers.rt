@@ -36,7 +36,7 @@ fn calls_in_five_turns<R: Wait>(
     worker.turn(rt, &mut bench, &mut arrivals, 0);
     worker.turn(rt, &mut bench, &mut arrivals, 0);
     worker.turn(rt, &mut bench, &mut arrivals, 0);
-    Ok(letters(alloc, bench.shard(0))?)
+    Ok(letters(alloc, &bench)?)
 }
 
 #[test]
