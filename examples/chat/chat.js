@@ -78,9 +78,14 @@ function say(event, data, channel) {
   if (wire && wire.readyState === WebSocket.OPEN) wire.send(JSON.stringify({ event, ...(channel && { channel }), data }));
 }
 
+// Data are JSON in a string in what the server and the back end say, and JSON itself, or anything, in what another page says.
+function read(data) {
+  if (typeof data !== "string") return data;
+  try { return JSON.parse(data); } catch { return null; }
+}
+
 async function hear(frame, mine) {
-  // data are JSON in a string in what the server and the back end say, and JSON itself in what another page says
-  const data = typeof frame.data === "string" ? JSON.parse(frame.data) : frame.data;
+  const data = read(frame.data);
   switch (frame.event) {
     case "pusher:connection_established": return come(data.socket_id, mine);
     case "pusher:ping": return say("pusher:pong", {});
