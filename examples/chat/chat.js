@@ -2,7 +2,7 @@
 "use strict";
 
 const ROOM = "presence-room", WEBHOOKS = "private-webhooks";
-const LONGEST_PAUSE = 30, TYPING_SHOWN = 3000, TYPING_TOLD = 2000;
+const LONGEST_PAUSE = 20, TYPING_SHOWN = 3000, TYPING_TOLD = 2000;
 
 // What a close code means to who sits before the page, and whether the page connects again by itself.
 const CLOSED = {
@@ -68,7 +68,7 @@ function closed(code) {
   if (!comesBack) return show(words, "bad");
   // codes from 4200 to 4299 ask for a connection at once; else each pause is twice the one before, and a little by chance,
   // so that the windows of all people don't come back at the same moment
-  const pause = code >= 4200 && code < 4300 && !tries ? 0 : Math.min(LONGEST_PAUSE, 2 ** tries) * (0.5 + Math.random() / 2);
+  const pause = code >= 4200 && code < 4300 && !tries ? 0 : Math.min(LONGEST_PAUSE, 2 ** tries) * (1 + Math.random() / 2);
   tries += 1;
   show(`${words} Connecting again in ${Math.ceil(pause)} s.`, "bad");
   setTimeout(() => { if (!wire) connect(); }, pause * 1000);
