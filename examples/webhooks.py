@@ -4,18 +4,21 @@
     examples/webhooks.py [config.json]           # until it is interrupted
     examples/webhooks.py [config.json] --once    # subscribes and leaves as well, and ends once it was told of both
 
-Start it before the server has something to tell: a webhook that isn't received is posted again, after 1, 2, 4 .. 64 seconds.
+Start it before the server has something to tell: a webhook that wasn't received is posted again, after 1, 2, 4 .. 64 seconds, and
+those behind it wait. So what came before it was started may take a minute.
 """
 import json
+import os
 import queue
 import sys
 import urllib.parse
 from http.server import BaseHTTPRequestHandler, HTTPServer
 from threading import Thread
 
-from channels import WAIT, Failed, Socket, run, saw
+from channels import Failed, Socket, run, saw
 
 EVENTS = queue.Queue()
+LONGEST = 70  # seconds, in which a webhook is tried again
 
 
 def receiver_for(app):
@@ -42,10 +45,10 @@ def receiver_for(app):
 
 def wait_for(name, channel):
     try:
-        while EVENTS.get(timeout=WAIT) != {"name": name, "channel": channel}:
+        while EVENTS.get(timeout=LONGEST) != {"name": name, "channel": channel}:
             pass
     except queue.Empty:
-        raise Failed(f"no webhook {name} of {channel} came in {WAIT} seconds") from None
+        raise Failed(f"no webhook {name} of {channel} came in {LONGEST} seconds") from None
 
 
 def example(app):
@@ -57,11 +60,12 @@ def example(app):
     if "--once" not in sys.argv:
         server.serve_forever()
     Thread(target=server.serve_forever, daemon=True).start()
+    channel = f"hooked-{os.getpid()}"
     socket = Socket(app)
-    socket.subscribe("hooked")
-    wait_for("channel_occupied", "hooked")
+    socket.subscribe(channel)
+    wait_for("channel_occupied", channel)
     socket.close()
-    wait_for("channel_vacated", "hooked")
+    wait_for("channel_vacated", channel)
 
 
 if __name__ == "__main__":
