@@ -1,0 +1,5 @@
+pub mod Compared
+pub mod Once
+pub mod Adding
+pub mod Undoing
+pub mod Ending
