@@ -3,3 +3,5 @@ pub mod Once
 pub mod Adding
 pub mod Undoing
 pub mod Ending
+pub mod Reading
+pub mod Walking

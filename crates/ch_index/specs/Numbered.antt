@@ -1,5 +1,5 @@
 -- Rows under joining numbers, which rise from the oldest on, and how two indexes agree with them.
-use Rattle.std.specs.Prelude.{◌≡◌, ℕ, ◌<◌, List, [], ◌∷◌, bytes_eq, Option, filter, find, map, option_map}
+use Rattle.std.specs.Prelude.{◌≡◌, ℕ, ◌<◌, List, [], ◌∷◌, bytes_eq, Option, IsSome, filter, filter_map, find, map, option_map}
 use Rattle.std.specs.Ordering.{nat_cmp}
 use Rattle.std.specs.Cmp.Lexicographic.{slice_cmp}
 use Rattle.std.specs.List.Sorted.{IsStrictlySortedBy}
@@ -30,3 +30,12 @@ module _ {R : Type 0} (name : R → List ℕ) where
       pub once : EachOnce name socket (values_of es)
       pub by_name : (c : List ℕ) → keys_of (inner (slice_cmp nat_cmp) names c) ≡ numbers_at es c
       pub by_socket : (s : ℕ) (c : List ℕ) → lookup (is_at (slice_cmp nat_cmp c)) (inner nat_cmp sockets s) ≡ number_of es s c
+
+-- the rows under these numbers
+abbrev pub rows_under : {R : Type 0} → List (ℕ × R) → List ℕ → List R
+rows_under es ks = filter_map (λ k. lookup (is_at (nat_cmp k)) es) ks
+
+-- a row stands under each of these numbers
+abbrev pub AreThere : {R : Type 0} → List (ℕ × R) → List ℕ → Type 0
+AreThere es [] = Unit {0}
+AreThere es (k ∷ ks) = IsSome (lookup (is_at (nat_cmp k)) es) × AreThere es ks

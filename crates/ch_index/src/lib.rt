@@ -8,7 +8,9 @@
 mod nest;
 mod numbered;
 mod row;
+mod walk;
 
 pub use nest::Nest;
 pub use numbered::Numbered;
 pub use row::Row;
+pub use walk::Walk;

@@ -1,0 +1,17 @@
+use Rattle.std.proofs.Common.{◌≡◌, ℕ, List, ◌==◌, ◌∙◌, ap, sym, find, length, slice_get}
+use Rattle.std.specs.Option.{option_copied}
+use Rattle.std.specs.Map.{keys_of, values_of}
+use Rattle.std.specs.Ordering.{nat_cmp}
+use Rattle.std.specs.Cmp.Lexicographic.{slice_cmp}
+use Rattle.std.proofs.lemmas.Map.Entries.{length-keys_of}
+use Rattle.ch_index.specs.Nest.{inner, is_past}
+use Rattle.ch_index.specs.Rows.{named, names, names_in}
+use Rattle.ch_index.proofs.Reading.{count_named, names_are, names_used, row_under, nth_named, found_row}
+use Rattle.ch_index.proofs.numbered.Numbered.next_name.Goals as goal
+
+pub returns : goal.returns
+returns g c =
+    let es : List (ℕ × g.row.R.Denot) = c.self.inside.rows.entries in
+    c.next_key.ensures.next
+    ∙ ap (find (is_past (slice_cmp nat_cmp) (option_copied c.args.after))) (names_used g.R.Row.name c.self.inside.by_name.maps es c.next_key.ensures.ordered c.self.invariant.by_name)
+    ∙ ap (λ (fs : List (ℕ × g.row.R.Denot)). find (is_past (slice_cmp nat_cmp) (option_copied c.args.after)) (names g.R.Row.name (values_of fs))) c.self.view_is
