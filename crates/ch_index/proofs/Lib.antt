@@ -5,3 +5,4 @@ pub mod Undoing
 pub mod Ending
 pub mod Reading
 pub mod Walking
+pub mod Losing

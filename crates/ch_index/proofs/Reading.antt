@@ -136,7 +136,7 @@ module _ {R : Type 0} (name : R → List ℕ) where
       first_or rest (suc j) = rest j
 
   module _ (socket : R → ℕ) where
-    named_in : (xs : List R) (s : ℕ) (c : List ℕ) → has_text (map name (of_socket name socket xs s)) c ≡ has_row name socket xs s c
+    pub named_in : (xs : List R) (s : ℕ) (c : List ℕ) → has_text (map name (of_socket name socket xs s)) c ≡ has_row name socket xs s c
     named_in xs s c =
         list_any-map (λ y. bytes_eq y c) name (of_socket name socket xs s)
         ∙ list_any-filter (λ r. bytes_eq (name r) c) (λ r. socket r == s) xs
@@ -166,7 +166,7 @@ module _ {R : Type 0} (name : R → List ℕ) where
         ]) is
 
     -- the row under the number of a socket and a name is theirs
-    row_of : (es : List (ℕ × R)) (s : ℕ) (c : List ℕ) → IsStrictlySortedBy nat_cmp (keys_of es) → row_under es (number_of name socket es s c) ≡ find (is_of name socket s c) (values_of es)
+    pub row_of : (es : List (ℕ × R)) (s : ℕ) (c : List ℕ) → IsStrictlySortedBy nat_cmp (keys_of es) → row_under es (number_of name socket es s c) ≡ find (is_of name socket s c) (values_of es)
     row_of [] s c rising = refl
     row_of (e ∷ es) s c rising =
         let p : ℕ × R → Bool = λ e. is_of name socket s c e.1 in

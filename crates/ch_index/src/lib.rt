@@ -5,11 +5,14 @@
 //! of its rows, and from each socket to its names and their numbers.
 #![tactic(auto)]
 
+mod index;
 mod nest;
 mod numbered;
 mod row;
+mod rows;
 mod walk;
 
+pub use index::{Index, LAST_NUMBER};
 pub use nest::Nest;
 pub use numbered::Numbered;
 pub use row::Row;

@@ -131,7 +131,8 @@ impl<R: Row + Drop> Numbered<R> {
 
     /// How many names the socket has.
     pub fn names(&self, socket: u64) -> u64
-        ensures { result ≡ length (names_in R.name R.socket (values_of self.now) socket) }
+        ensures rows { result ≡ length (of_socket R.name R.socket (values_of self.now) socket) }
+        ensures names { result ≡ length (names_in R.name R.socket (values_of self.now) socket) }
     {
         self.by_socket.count(&socket)
     }
@@ -200,8 +201,10 @@ impl<R: Row + Drop> Numbered<R> {
         ensures some { IfSome result (λ n. option_map R.socket (lookup (is_at (nat_cmp n)) self.now) ≡ Some socket) }
         ensures none { IfNone result (of_socket R.name R.socket (values_of self.now) socket ≡ []) }
     {
-        let name = self.by_socket.nth(&socket, 0)?;
-        self.number(socket, name)
+        match self.by_socket.nth(&socket, 0) {
+            None => None,
+            Some(name) => self.number(socket, name),
+        }
     }
 
     /// Takes the rows of the socket out, and answers how many there were. It takes no memory.
@@ -210,7 +213,7 @@ impl<R: Row + Drop> Numbered<R> {
         ensures rows { values_of self.new ≡ without_all R.name R.socket (values_of self.old) socket }
     {
         let count = self.names(socket);
-        for _ in 0..count {
+        for place in 0..count {
             match self.first_of(socket) {
                 Some(number) => self.end(number),
                 None => {}
