@@ -1,20 +1,20 @@
 -- The rows of a socket, taken out one by one.
-use Rattle.std.proofs.Common.{◌≡◌, ℕ, suc, ◌+◌, ◌<◌, Bool, true, false, not, ◌&&◌, ◌||◌, ◌==◌, cond, List, [], ◌∷◌, ◌++◌, Option, Some, None, bytes_eq, filter, find, map, option_map, is_some, IsSome, length, slice_get, refl, ap, ap₂, sym, ◌∙◌, arith}
-use Rattle.std.specs.List.{list_any, AllByRecursion}
+use Rattle.std.proofs.Common.{◌≡◌, ℕ, suc, ◌+◌, Bool, true, false, not, ◌||◌, ◌==◌, cond, List, [], ◌∷◌, ◌++◌, Option, Some, None, bytes_eq, filter, find, map, option_map, is_some, IsSome, length, slice_get, refl, ap, ap₂, sym, ◌∙◌, arith}
+use Rattle.std.specs.List.{AllByRecursion}
 use Rattle.std.specs.List.Sorted.{IsStrictlySortedBy}
-use Rattle.std.specs.Ordering.{is_eq, is_lt, nat_cmp}
+use Rattle.std.specs.Ordering.{is_lt, nat_cmp}
 use Rattle.std.specs.Map.{keys_of, values_of, lookup, remove_entry}
 use Rattle.std.specs.BTreeMap.{is_at}
 use Rattle.std.proofs.lemmas.Map.Keys.{ge_from_not_lt}
 use Rattle.ch_history.specs.Texts.{has_text, each_once, sorted, place, is_before, ascending}
-use Rattle.ch_history.proofs.Lists.{both, neither, list_any-filter, list_any-map, list_any-same, filter-none}
+use Rattle.ch_history.proofs.Lists.{both, neither, filter-none}
 use Rattle.ch_history.proofs.Texts.{text_itself, has_text-ascending}
-use Rattle.ch_index.specs.Rows.{named, names, is_of, has_row, of_socket, names_in, without_one, without_all, EachOnce}
+use Rattle.ch_index.specs.Rows.{is_of, has_row, of_socket, names_in, without_one, without_all, EachOnce}
 use Rattle.ch_index.specs.Numbered.{AreBelow, number_of}
 use Rattle.ch_index.proofs.Compared.{is_eq-nat_cmp, number_itself, same_number}
 use Rattle.ch_index.proofs.Once.{has_number, is_of-swap}
 use Rattle.ch_index.proofs.Reading.{row_under, row_of, named_in}
-use Rattle.ch_index.proofs.Ending.{Taken, taken}
+use Rattle.ch_index.proofs.Ending.{taken}
 
 length-place : (x : List ℕ) (ys : List (List ℕ)) → length (place x ys) ≡ suc (length ys)
 length-place x [] = refl

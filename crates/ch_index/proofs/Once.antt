@@ -1,6 +1,6 @@
 -- Rows of which no two have one socket and one name.
-use Rattle.std.proofs.Common.{◌≡◌, ℕ, Bool, true, false, ◌&&◌, ◌||◌, ◌==◌, cond, List, [], ◌∷◌, ◌++◌, Option, Some, None, bytes_eq, refl, ap, ap₂, sym, ◌∙◌, is_some, map, find, option_map}
-use Rattle.std.specs.Map.{values_of, lookup, remove_entry}
+use Rattle.std.proofs.Common.{◌≡◌, ℕ, Bool, true, false, ◌&&◌, ◌||◌, cond, List, [], ◌∷◌, ◌++◌, Some, None, refl, ap, ap₂, sym, ◌∙◌, is_some, find, option_map}
+use Rattle.std.specs.Map.{values_of, remove_entry}
 use Rattle.std.proofs.lemmas.List.Folds.{list_any-append}
 use Rattle.ch_history.proofs.Lists.{neither}
 use Rattle.ch_index.specs.Rows.{is_of, has_row, EachOnce}
@@ -14,9 +14,11 @@ module _ {R : Type 0} (name : R → List ℕ) (socket : R → ℕ) where
   pub EachOnce-push : (xs : List R) (r : R) → has_row name socket xs (socket r) (name r) ≡ false → EachOnce name socket xs → EachOnce name socket (xs ++ r ∷ [])
   EachOnce-push [] r none once = (refl, tt)
   EachOnce-push (x ∷ xs) r none once =
-      let parts = neither (is_of name socket (socket r) (name r) x) (has_row name socket xs (socket r) (name r)) none in
-      (list_any-append (is_of name socket (socket x) (name x)) xs (r ∷ [])
-      ∙ ap₂ ◌||◌ once.0 (ap (λ b. b || false) (is_of-swap x r ∙ parts.0)), EachOnce-push xs r parts.1 once.1)
+      let parts = neither (is_of name socket (socket r) (name r) x) (has_row name socket xs (socket r) (name r)) none in (
+        list_any-append (is_of name socket (socket x) (name x)) xs (r ∷ [])
+            ∙ ap₂ ◌||◌ once.0 (ap (λ b. b || false) (is_of-swap x r ∙ parts.0)),
+        EachOnce-push xs r parts.1 once.1,
+      )
 
   -- a row has a number exactly where it is there
   pub has_number : (es : List (ℕ × R)) (s : ℕ) (c : List ℕ) → is_some (number_of name socket es s c) ≡ has_row name socket (values_of es) s c

@@ -1,5 +1,5 @@
 -- What the indexes say of the rows: by name, by socket, and the names of all.
-use Rattle.std.proofs.Common.{◌≡◌, ℕ, zero, suc, ◌<◌, Bool, true, false, not, ◌&&◌, ◌||◌, ◌==◌, cond, List, [], ◌∷◌, ◌++◌, Option, Some, None, Less, bytes_eq, filter, find, map, option_map, is_some, length, slice_get, nat_lt, refl, ap, ap₂, sym, ◌∙◌, subst, arith}
+use Rattle.std.proofs.Common.{◌≡◌, ℕ, zero, suc, ◌<◌, Bool, true, false, ◌&&◌, ◌||◌, ◌==◌, cond, List, [], ◌∷◌, Option, Some, None, Less, bytes_eq, filter, find, map, option_map, is_some, length, slice_get, nat_lt, refl, ap, ap₂, sym, ◌∙◌, subst, arith}
 use Rattle.std.specs.List.{list_any, list_all, AllByRecursion}
 use Rattle.std.specs.List.Sorted.{IsStrictlySortedBy}
 use Rattle.std.specs.declared.cmp.Ordering.{Ordering}
@@ -13,7 +13,7 @@ use Rattle.std.proofs.lemmas.Cmp.{eq_by_cmp_equiv, nat_list_cmp_total}
 use Rattle.std.proofs.lemmas.Map.Entries.{length-keys_of, option_filter, lookup-filter-values}
 use Rattle.std.proofs.lemmas.Map.Keys.{sorted_head, sorted_tail, IsDistinct-from_sorted}
 use Rattle.std.proofs.lemmas.Map.Text.{is_eq-slice_cmp}
-use Rattle.ch_history.specs.Texts.{has_text, is_before, ascending}
+use Rattle.ch_history.specs.Texts.{has_text, is_before}
 use Rattle.ch_history.proofs.Ascending.{IsAscending, ascending-unique}
 use Rattle.ch_history.proofs.Lists.{list_any-map, list_any-filter, list_any-same}
 use Rattle.ch_index.specs.Nest.{entries_of, inner, is_used, used}

@@ -1,5 +1,5 @@
 -- A row's number taken out of the indexes again.
-use Rattle.std.proofs.Common.{◌≡◌, ℕ, ◌<◌, Bool, true, false, ◌&&◌, ◌==◌, cond, List, [], ◌∷◌, ◌++◌, Option, Some, None, bytes_eq, refl, ap, ap₂, sym, ◌∙◌, append-nil}
+use Rattle.std.proofs.Common.{◌≡◌, ℕ, Bool, true, false, ◌&&◌, ◌==◌, cond, List, [], ◌∷◌, ◌++◌, Some, None, bytes_eq, refl, ap, ap₂, sym, ◌∙◌, append-nil}
 use Rattle.std.specs.Option.{option_or}
 use Rattle.std.specs.Ordering.{is_eq, nat_cmp}
 use Rattle.std.specs.Cmp.Lexicographic.{slice_cmp}
@@ -8,7 +8,6 @@ use Rattle.std.specs.BTreeMap.{BTreeMap, is_at}
 use Rattle.std.proofs.lemmas.Map.Text.{is_eq-slice_cmp}
 use Rattle.ch_history.proofs.Texts.{same_text, text_itself}
 use Rattle.ch_index.specs.Nest.{inner}
-use Rattle.ch_index.specs.Rows.{is_of}
 use Rattle.ch_index.specs.Numbered.{AreBelow, numbers_at, number_of}
 use Rattle.ch_index.proofs.Compared.{is_eq-nat_cmp, same_number, number_itself, not_at}
 use Rattle.ch_index.proofs.Adding.{numbers_below, numbers_push, number_push}

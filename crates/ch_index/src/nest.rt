@@ -113,7 +113,10 @@ impl<K: Ord + Drop, J: Ord + Drop, V: Drop> Nest<K, J, V> {
         ensures ordered { IsStrictlySortedBy K.cmp (keys_of self.now.maps.entries) }
     {
         match after {
-            None => first_used(self.maps.range((Bound::<&K>::Unbounded, Bound::<&K>::Unbounded))),
+            None => first_used(
+                self.maps
+                    .range((Bound::<&K>::Unbounded, Bound::<&K>::Unbounded)),
+            ),
             Some(after) => first_used(self.maps.range((Bound::Excluded(after), Bound::Unbounded))),
         }
     }

@@ -1,4 +1,4 @@
-use Rattle.std.proofs.Common.{◌≡◌, ◌∙◌, None, Some, find, option_map, ap, sym, refl}
+use Rattle.std.proofs.Common.{◌∙◌, None, Some, find, option_map, ap, sym, refl}
 use Rattle.std.specs.Option.{option_copied}
 use Rattle.std.specs.Ordering.{is_lt}
 use Rattle.std.specs.BTreeMap.Range.{range_contains}

@@ -4,7 +4,6 @@ use Rattle.std.specs.Ordering.{nat_cmp}
 use Rattle.std.specs.Cmp.Lexicographic.{slice_cmp}
 use Rattle.std.specs.BTreeMap.{is_at}
 use Rattle.std.proofs.lemmas.List.{map-append}
-use Rattle.ch_index.specs.Nest.{inner}
 use Rattle.ch_index.specs.Rows.{EachOnce}
 use Rattle.ch_index.specs.Numbered.{AreBelow, numbers_at, number_of}
 use Rattle.ch_index.proofs.Once.{EachOnce-push, no_row}

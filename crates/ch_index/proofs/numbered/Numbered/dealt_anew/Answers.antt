@@ -27,8 +27,10 @@ rows-preserved g c =
     let now : c.add.new.self ≡ old ++ last = c.in_ok-add.ensures.ok in
     let values : values_of c.add.new.self ≡ xs ++ c.in-Some.row.now ∷ [] = ap values_of now ∙ map-append (λ (e : ℕ × g.row.R.Denot). e.1) old last ∙ ap (λ r. xs ++ r ∷ []) c.in_ok-row.ensures in
     let keys : keys_of c.add.new.self ≡ keys_of old ++ n ∷ [] = ap keys_of now ∙ map-append (λ (e : ℕ × g.row.R.Denot). e.0) old last in
-    let shorter = ap length c.in-Some.ensures.steps in
-    (tt, tt,
+    let shorter = ap length c.in-Some.ensures.steps in (
+      tt,
+      tt,
       ap (λ ys. ys ++ left) values ∙ append_assoc xs (c.in-Some.row.now ∷ []) left ∙ ap (λ ys. xs ++ ys) (sym c.in-Some.ensures.steps) ∙ c.rows.invariant.2,
       omega (arith, shorter, c.rows.invariant.3),
-      subst (AreBelow (n + 1)) (sym keys) (below_push n (keys_of old) c.rows.invariant.4))
+      subst (AreBelow (n + 1)) (sym keys) (below_push n (keys_of old) c.rows.invariant.4),
+    )

@@ -1,4 +1,4 @@
-use Rattle.std.proofs.Common.{◌≡◌, ℕ, List, [], Some, None, true, false, is_some, IfSome, IfNone, option_map, slice_get, ◌∙◌, ap, refl, sym, subst}
+use Rattle.std.proofs.Common.{◌≡◌, ℕ, List, [], Some, None, true, false, is_some, IfSome, IfNone, option_map, ◌∙◌, ap, refl, sym, subst}
 use Rattle.std.specs.Option.{option_copied}
 use Rattle.std.specs.List.Sorted.{IsStrictlySortedBy}
 use Rattle.std.specs.Map.{keys_of, values_of, lookup}

@@ -1,9 +1,8 @@
-use Rattle.std.proofs.Common.{◌≡◌, ℕ, List, Some, None, is_some, ◌∙◌, ap, sym, subst}
+use Rattle.std.proofs.Common.{ℕ, List, is_some, ◌∙◌, ap, sym, subst}
 use Rattle.std.specs.List.Sorted.{IsStrictlySortedBy}
 use Rattle.std.specs.Map.{keys_of, values_of}
 use Rattle.std.specs.Ordering.{nat_cmp}
 use Rattle.ch_index.specs.Rows.{EachOnce}
-use Rattle.ch_index.specs.Numbered.{number_of}
 use Rattle.ch_index.proofs.Once.{has_number}
 use Rattle.ch_index.proofs.Losing.{number_there, one_left, none_left}
 use Rattle.ch_index.proofs.numbered.Numbered.leave.Goals as goal

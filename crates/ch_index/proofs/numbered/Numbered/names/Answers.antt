@@ -1,13 +1,11 @@
-use Rattle.std.proofs.Common.{◌≡◌, ℕ, List, ◌==◌, ◌∙◌, ap, sym, find, length, slice_get}
-use Rattle.std.specs.Option.{option_copied}
-use Rattle.std.specs.Map.{keys_of, values_of}
+use Rattle.std.proofs.Common.{ℕ, List, ◌∙◌, ap, sym, length}
+use Rattle.std.specs.Map.{values_of}
 use Rattle.std.specs.Ordering.{nat_cmp}
-use Rattle.std.specs.Cmp.Lexicographic.{slice_cmp}
 use Rattle.std.proofs.lemmas.Map.Entries.{length-keys_of}
-use Rattle.ch_index.specs.Nest.{inner, is_past}
-use Rattle.ch_index.specs.Rows.{named, names, names_in, of_socket}
+use Rattle.ch_index.specs.Nest.{inner}
+use Rattle.ch_index.specs.Rows.{names_in, of_socket}
 use Rattle.ch_index.proofs.Losing.{length-names}
-use Rattle.ch_index.proofs.Reading.{count_named, names_are, names_used, row_under, nth_named, found_row}
+use Rattle.ch_index.proofs.Reading.{names_are}
 use Rattle.ch_index.proofs.numbered.Numbered.names.Goals as goal
 
 pub returns-clause-names : goal.returns-clause-names

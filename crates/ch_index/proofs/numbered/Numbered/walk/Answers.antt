@@ -1,4 +1,4 @@
-use Rattle.std.proofs.Common.{◌≡◌, ℕ, List, ◌∙◌, ap, sym, subst}
+use Rattle.std.proofs.Common.{ℕ, List, ◌∙◌, ap, sym, subst}
 use Rattle.std.specs.Map.{values_of}
 use Rattle.ch_index.specs.Rows.{named}
 use Rattle.ch_index.specs.Numbered.{rows_under, AreThere}
