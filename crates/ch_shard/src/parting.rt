@@ -9,7 +9,7 @@ ghost use Rattle.ch_shard.specs.Parting.{is_user, others, gone_user, farewell, f
 use crate::made::Made;
 use crate::telling::tell;
 use ch_base::{Frame, Hook, Member, Memory, Text};
-use ch_history::Delivery;
+use ch_history::{Delivery, Subscription};
 use ch_subs::Subs;
 use std::alloc::Global;
 
@@ -74,13 +74,20 @@ pub fn user_of<'a>(subs: &'a Subs, channel: &Text, socket: u64) -> Option<&'a Te
 fn has_other_of(subs: &Subs, channel: &Text, socket: u64, user_id: &Text) -> bool
     ensures { result ≡ list_any (λ s. not (s.socket == socket) && is_user user_id.now s.member) (on_channel subs.now channel.now) }
 {
-    for i in 0..subs.count(channel) {
-        let subscription = subs.sub(channel, i);
-        if subscription.socket != socket && is_user(user_id, &subscription.member) {
+    let mut walk = subs.walk(channel);
+    'walk: while let Some(subscription) = walk.next() {
+        if is_other_of(subscription, socket, user_id) {
             return true;
         }
     }
     false
+}
+
+/// Whether the subscription is another socket's of the user.
+fn is_other_of(subscription: &Subscription, socket: u64, user_id: &Text) -> bool
+    ensures { result ≡ (not (subscription.now.socket == socket) && is_user user_id.now subscription.now.member) }
+{
+    subscription.socket != socket && is_user(user_id, &subscription.member)
 }
 
 /// Whether the member is the user.
@@ -97,8 +104,9 @@ fn is_user(user_id: &Text, member: &Option<Member>) -> bool
 fn has_other(subs: &Subs, channel: &Text, socket: u64) -> bool
     ensures { result ≡ list_any (λ s. not (s.socket == socket)) (on_channel subs.now channel.now) }
 {
-    for i in 0..subs.count(channel) {
-        if subs.sub(channel, i).socket != socket {
+    let mut walk = subs.walk(channel);
+    'walk: while let Some(subscription) = walk.next() {
+        if subscription.socket != socket {
             return true;
         }
     }

@@ -21,8 +21,9 @@ pub fn tell(
     requires { IsNews frame.now }
     ensures { OnOk result (made.new.items ≡ made.old.items ++ told frame.now except (on_channel subs.now channel.now)) }
 {
-    for i in 0..subs.count(channel) {
-        tell_one(alloc, subs.sub(channel, i), frame, except, made)?;
+    let mut walk = subs.walk(channel);
+    'walk: while let Some(subscription) = walk.next() {
+        tell_one(alloc, subscription, frame, except, made)?;
     }
     Ok(())
 }

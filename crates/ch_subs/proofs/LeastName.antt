@@ -1,16 +1,14 @@
--- The least of ascending names above one: how it changes with one more name, and that it is the next one in their list.
-use Rattle.std.proofs.Common.{◌≡◌, ℕ, zero, suc, ◌<◌, Bool, true, false, ◌&&◌, ◌||◌, cond, List, [], ◌∷◌, ◌++◌, Option, Some, None, Ordering, Less, Equal, Greater, filter, find, map, length, take, slice_get, slice_index_or, bytes_eq, refl, ap, sym, ◌∙◌, append-nil, arith}
+-- The least of ascending names above one is the next one in their list.
+use Rattle.std.proofs.Common.{◌≡◌, ℕ, zero, suc, ◌<◌, Bool, true, false, cond, List, [], ◌∷◌, Some, None, Ordering, Less, Equal, Greater, find, length, slice_get, refl, ap, ◌∙◌, arith}
 use Rattle.std.specs.List.{list_all}
 use Rattle.std.specs.Ordering.{is_lt, is_eq}
 use Rattle.std.proofs.lemmas.Cmp.{nat_list_cmp_total}
 use Rattle.std.proofs.lemmas.Map.Text.{is_eq-slice_cmp}
-use Rattle.std.proofs.lemmas.List.Elements.{filter-append}
-use Rattle.ch_history.specs.declared.rows.Subscription.{Subscription}
-use Rattle.ch_history.specs.Texts.{is_before, has_text, place, ascending}
+use Rattle.ch_history.specs.Texts.{is_before}
 use Rattle.ch_history.proofs.Lists.{both}
-use Rattle.ch_history.proofs.Texts.{same_text, text_itself, has_text-ascending}
-use Rattle.ch_history.proofs.Ascending.{compared, IsAscending, IsAscending-ascending, IsAscending-place, ascending-push}
-use Rattle.ch_subs.specs.Names.{is_above, is_lower, is_of, least_with, names, names_of}
+use Rattle.ch_history.proofs.Texts.{text_itself}
+use Rattle.ch_history.proofs.Ascending.{compared, IsAscending}
+use Rattle.ch_subs.specs.Names.{is_above}
 
 -- The order of names
 
@@ -36,84 +34,6 @@ not_both x y first =
       | false ↦ (λ second. refl)
     ]) refl
 
--- One more name
-
--- a name that comes before all is lower than what is found among them
-lower_than_found : (q : List ℕ → Bool) (x : List ℕ) (ys : List (List ℕ)) → list_all (is_before x) ys ≡ true → is_lower x (find q ys) ≡ true
-lower_than_found q x [] all = refl
-lower_than_found q x (y ∷ ys) all =
-    let parts = both (is_before x y) (list_all (is_before x) ys) all in
-    elim (q y) as (λ b. is_lower x (cond b (Some y) (find q ys)) ≡ true) [
-      | true ↦ parts.0
-      | false ↦ lower_than_found q x ys parts.1
-    ]
-
--- what all pass, each one that is there passes
-passes_there : (p : List ℕ → Bool) (x : List ℕ) (ys : List (List ℕ)) → list_all p ys ≡ true → has_text ys x ≡ true → p x ≡ true
-passes_there p x [] all there = cc
-passes_there p x (y ∷ ys) all there =
-    let parts = both (p y) (list_all p ys) all in
-    (elim (bytes_eq y x) as (λ b. bytes_eq y x ≡ b → (b || has_text ys x) ≡ true → p x ≡ true) [
-      | true ↦ (λ is h. ap p (sym (same_text y x is)) ∙ parts.0)
-      | false ↦ (λ is h. passes_there p x ys parts.1 h)
-    ]) refl there
-
--- a name that is there isn't lower than the first that passes, where it passes too
-not_lower_there : (q : List ℕ → Bool) (x : List ℕ) (ys : List (List ℕ)) → IsAscending ys → has_text ys x ≡ true → q x ≡ true → is_lower x (find q ys) ≡ false
-not_lower_there q x [] up there passes = cc
-not_lower_there q x (y ∷ ys) up there passes =
-    (elim (bytes_eq y x) as (λ b. bytes_eq y x ≡ b → (b || has_text ys x) ≡ true → is_lower x (cond (q y) (Some y) (find q ys)) ≡ false) [
-      | true ↦ (λ is h.
-          let same : y ≡ x = same_text y x is in
-          ap (λ b. is_lower x (cond b (Some y) (find q ys))) (ap q same ∙ passes) ∙ ap (is_before x) same ∙ before_itself x)
-      | false ↦ (λ is h. elim (q y) as (λ b. is_lower x (cond b (Some y) (find q ys)) ≡ false) [
-        | true ↦ not_both y x (passes_there (is_before y) x ys up.0 h)
-        | false ↦ not_lower_there q x ys up.1 h passes
-      ])
-    ]) refl there
-
-find-place : (q : List ℕ → Bool) (x : List ℕ) (ys : List (List ℕ)) → IsAscending ys → IsAscending (place x ys) → find q (place x ys) ≡ cond (q x && is_lower x (find q ys)) (Some x) (find q ys)
-find-place q x [] up placed = elim (q x) as (λ a. cond a (Some x) None ≡ cond (a && true) (Some x) None) [ true ↦ refl | false ↦ refl ]
-find-place q x (y ∷ ys) up placed =
-    (elim (is_before x y) as (λ b. is_before x y ≡ b → IsAscending (cond b (x ∷ y ∷ ys) (y ∷ place x ys)) → find q (cond b (x ∷ y ∷ ys) (y ∷ place x ys)) ≡ cond (q x && is_lower x (find q (y ∷ ys))) (Some x) (find q (y ∷ ys))) [
-      | true ↦ (λ first up.
-          elim (q x) as (λ a. cond a (Some x) (find q (y ∷ ys)) ≡ cond (a && is_lower x (find q (y ∷ ys))) (Some x) (find q (y ∷ ys))) [
-            | true ↦ sym (ap (λ b. cond b (Some x) (find q (y ∷ ys))) (lower_than_found q x (y ∷ ys) up.0))
-            | false ↦ refl
-          ])
-      | false ↦ (λ after up_placed.
-          elim (q y) as (λ b. cond b (Some y) (find q (place x ys)) ≡ cond (q x && is_lower x (cond b (Some y) (find q ys))) (Some x) (cond b (Some y) (find q ys))) [
-            | true ↦ sym (ap (λ b. cond (q x && b) (Some x) (Some y)) after ∙ elim (q x) as (λ a. cond (a && false) (Some x) (Some y) ≡ Some y) [ true ↦ refl | false ↦ refl ])
-            | false ↦ find-place q x ys up.1 up_placed.1
-          ])
-    ]) refl placed
-
-find-more : (q : List ℕ → Bool) (xs : List (List ℕ)) (x : List ℕ) → find q (ascending (xs ++ x ∷ [])) ≡ cond (q x && is_lower x (find q (ascending xs))) (Some x) (find q (ascending xs))
-find-more q xs x =
-    let ys : List (List ℕ) = ascending xs in
-    ap (find q) (ascending-push xs x)
-    ∙ (elim (has_text xs x) as (λ b. has_text xs x ≡ b → find q (cond b ys (place x ys)) ≡ cond (q x && is_lower x (find q ys)) (Some x) (find q ys)) [
-      | true ↦ (λ there. (elim (q x) as (λ a. q x ≡ a → find q ys ≡ cond (a && is_lower x (find q ys)) (Some x) (find q ys)) [
-        | true ↦ (λ passes. sym (ap (λ b. cond b (Some x) (find q ys)) (not_lower_there q x ys (IsAscending-ascending xs) (has_text-ascending x xs ∙ there) passes)))
-        | false ↦ (λ fails. refl)
-      ]) refl)
-      | false ↦ (λ new. find-place q x ys (IsAscending-ascending xs) (IsAscending-place x ys (IsAscending-ascending xs) (has_text-ascending x xs ∙ new)))
-    ]) refl
-
-map-append : (xs ys : List Subscription) → map (λ s. s.channel) (xs ++ ys) ≡ map (λ s. s.channel) xs ++ map (λ s. s.channel) ys
-map-append [] ys = refl
-map-append (x ∷ xs) ys = ap (λ zs. x.channel ∷ zs) (map-append xs ys)
-
--- the least name above one, with one more subscription
-pub find-names_of : (socket : Option ℕ) (after : Option (List ℕ)) (xs : List Subscription) (s : Subscription) → find (is_above after) (names_of socket (xs ++ s ∷ [])) ≡ least_with (find (is_above after) (names_of socket xs)) s socket after
-find-names_of socket after xs s =
-    let its : List Subscription = filter (is_of socket) xs in
-    ap (λ ys. find (is_above after) (ascending (map (λ s. s.channel) ys))) (filter-append (is_of socket) xs (s ∷ []))
-    ∙ elim (is_of socket s) as (λ b. find (is_above after) (ascending (map (λ s. s.channel) (its ++ cond b (s ∷ []) []))) ≡ cond (b && (is_above after s.channel && is_lower s.channel (find (is_above after) (names_of socket xs)))) (Some s.channel) (find (is_above after) (names_of socket xs))) [
-      | true ↦ ap (λ ys. find (is_above after) (ascending ys)) (map-append its (s ∷ [])) ∙ find-more (is_above after) (map (λ s. s.channel) its) s.channel
-      | false ↦ ap (λ ys. find (is_above after) (ascending (map (λ s. s.channel) ys))) (append-nil its)
-    ]
-
 -- The next name
 
 find_all : (p : List ℕ → Bool) (ys : List (List ℕ)) → list_all p ys ≡ true → find p ys ≡ slice_get ys 0
@@ -137,23 +57,3 @@ name_after (y ∷ ys) (suc k) up inside =
     let at = passes_at (is_before y) ys k (omega arith) up.0 in
     let below : is_above (slice_get ys k) y ≡ false = ap (λ o. is_above o y) at.1 ∙ not_both y at.0 at.2 in
     ap (λ b. cond b (Some y) (find (is_above (slice_get ys k)) ys)) below ∙ name_after ys k up.1 (omega arith)
-
--- a place within a list has an element
-pub some_at : {X : Type 0} (xs : List X) (k : ℕ) → k < length xs → slice_get xs k ≡ None → ⊥
-some_at [] k inside none = omega arith
-some_at (x ∷ xs) zero inside none = cc
-some_at (x ∷ xs) (suc k) inside none = some_at xs k (omega arith) none
-
--- where no socket is given, all count
-pub names_of-all : (xs : List Subscription) → names_of None xs ≡ names xs
-names_of-all xs = ap (λ ys. names ys) (all_count xs)
-  where
-    all_count : (xs : List Subscription) → filter (is_of None) xs ≡ xs
-    all_count [] = refl
-    all_count (x ∷ xs) = ap (λ ys. x ∷ ys) (all_count xs)
-
--- a loop that goes on by one has one more element
-pub take_more : (xs : List Subscription) (i : ℕ) (x : Subscription) → i < length xs → x ≡ slice_index_or xs i x → take (suc i) xs ≡ take i xs ++ x ∷ []
-take_more [] i x inside is = absurd (omega arith)
-take_more (y ∷ ys) zero x inside is = ap (λ z. z ∷ []) (sym is)
-take_more (y ∷ ys) (suc i) x inside is = ap (λ zs. y ∷ zs) (take_more ys i x (omega arith) is)

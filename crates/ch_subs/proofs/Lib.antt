@@ -1,3 +1,2 @@
-pub mod Once
 pub mod LeastName
 pub mod Crossing

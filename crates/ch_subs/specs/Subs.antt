@@ -1,6 +1,5 @@
 -- The open subscriptions of all channels, the oldest first, and what each call leaves of them.
-use Rattle.std.specs.Prelude.{◌≡◌, ℕ, Bool, false, not, ◌&&◌, ◌==◌, List, [], ◌∷◌, ◌++◌, bytes_eq, Option, filter, if◌then◌else◌}
-use Rattle.std.specs.List.{list_any}
+use Rattle.std.specs.Prelude.{ℕ, not, ◌&&◌, ◌==◌, List, [], ◌∷◌, ◌++◌, bytes_eq, Option, filter, if◌then◌else◌}
 use Rattle.ch_base.specs.declared.channel.Member.{Member}
 use Rattle.ch_history.specs.declared.rows.Subscription.{Subscription}
 use Rattle.ch_history.specs.Subscriptions.{is_on}
@@ -20,12 +19,3 @@ without_one xs socket c = filter (λ s. not ((s.socket == socket) && bytes_eq s.
 -- without the socket's
 abbrev pub without_all : List Subscription → ℕ → List Subscription
 without_all xs socket = filter (λ s. not (s.socket == socket)) xs
-
--- whether t has the socket and the channel of s
-abbrev pub is_same : Subscription → Subscription → Bool
-is_same s t = (t.socket == s.socket) && bytes_eq t.channel s.channel
-
--- no socket is on a channel twice
-abbrev pub EachOnce : List Subscription → Type 0
-EachOnce [] = Unit {0}
-EachOnce (s ∷ xs) = (list_any (is_same s) xs ≡ false) × EachOnce xs

@@ -5,10 +5,9 @@
 #![tactic(auto)]
 
 mod joined_as;
-mod names;
 mod rows;
 mod subs;
 
 pub use ch_history::Subscription;
 pub use joined_as::JoinedAs;
-pub use subs::Subs;
+pub use subs::{SubWalk, Subs};

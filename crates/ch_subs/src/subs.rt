@@ -6,30 +6,31 @@ ghost use Rattle.ch_subs.specs.Names.{is_above, names};
 ghost use Rattle.ch_subs.specs.declared.joined_as.JoinedAs.TheVariants.{Fresh, Already};
 
 use crate::joined_as::JoinedAs;
-use crate::{names, rows};
+use crate::rows;
 use ch_base::{Member, Memory, Text};
 use ch_history::Subscription;
+use ch_index::{Index, Walk};
 use std::alloc::Global;
 use std::marker::Model;
 
-/// The open subscriptions, by one plain list that is searched from end to end.
+/// The open subscriptions, found by their channel and by their socket.
 #[derive(Drop)]
 pub struct Subs {
     alloc: Global,
-    rows: Vec<Subscription>,
+    index: Index<Subscription>,
 }
 
 impl Model for Subs {
     ghost use Rattle.std.specs.Prelude.{List};
     ghost use Rattle.ch_history.specs.declared.rows.Subscription.{Subscription};
-    ghost use Rattle.ch_subs.specs.Subs.{EachOnce};
 
     ghost Value = { List Subscription };
 
-    ghost view = { λ s. s.rows.items };
-
-    ghost invariant = { λ s. EachOnce s.rows.items };
+    ghost view = { λ s. s.index };
 }
+
+/// The subscriptions to a channel, in the order of joining.
+pub type SubWalk<'a> = Walk<'a, Subscription>;
 
 impl Subs {
     /// No subscriptions. It takes no memory.
@@ -38,7 +39,7 @@ impl Subs {
     {
         Subs {
             alloc,
-            rows: Vec::new(alloc),
+            index: Index::new(alloc),
         }
     }
 
@@ -58,11 +59,11 @@ impl Subs {
         ensures err { OnErr result (self.new ≡ self.old) }
         ensures already { IsTrue (is_on self.old socket channel.now) → result ≡ Ok Already }
     {
-        if rows::is_on(self.rows.as_slice(), socket, channel) {
+        if is_on(&self.index, socket, channel) {
             return Ok(JoinedAs::Already);
         }
         let row = rows::subscription(self.alloc, socket, channel, owner, member)?;
-        self.rows.push(row)?;
+        self.index.add(row)?;
         Ok(JoinedAs::Fresh)
     }
 
@@ -72,8 +73,8 @@ impl Subs {
         ensures answer { result ≡ is_on self.old socket channel.now }
         ensures subs { self.new ≡ without_one self.old socket channel.now }
     {
-        let was_on = rows::is_on(self.rows.as_slice(), socket, channel);
-        rows::end_one(&mut self.rows, socket, channel);
+        let was_on = is_on(&self.index, socket, channel);
+        self.index.leave(socket, channel);
         was_on
     }
 
@@ -82,37 +83,35 @@ impl Subs {
         ensures answer { result ≡ length (channels_in self.old socket) }
         ensures subs { self.new ≡ without_all self.old socket }
     {
-        let count = rows::count_of(self.rows.as_slice(), socket);
-        rows::end_all(&mut self.rows, socket);
-        count as u64
+        self.index.lost(socket)
     }
 
     /// How many subscriptions there are.
     pub fn len(&self) -> u64
         ensures { result ≡ length self.now }
     {
-        self.rows.len() as u64
+        self.index.len()
     }
 
     /// Whether the socket is subscribed to the channel.
     pub fn on(&self, socket: u64, channel: &Text) -> bool
         ensures { result ≡ is_on self.now socket channel.now }
     {
-        rows::is_on(self.rows.as_slice(), socket, channel)
+        is_on(&self.index, socket, channel)
     }
 
     /// The socket's subscription to the channel; none where it isn't on it.
     pub fn find(&self, socket: u64, channel: &Text) -> Option<&Subscription>
         ensures { option_copied result ≡ find (λ s. s.socket == socket) (on_channel self.now channel.now) }
     {
-        rows::find(self.rows.as_slice(), socket, channel)
+        self.index.find(socket, channel)
     }
 
     /// How many sockets are subscribed to the channel.
     pub fn count(&self, channel: &Text) -> u64
         ensures { result ≡ length (on_channel self.now channel.now) }
     {
-        rows::count_on(self.rows.as_slice(), channel) as u64
+        self.index.count(channel)
     }
 
     /// The channel's subscription with this place in the order of joining, counted from 0.
@@ -120,17 +119,24 @@ impl Subs {
         requires { i < length (on_channel self.now channel.now) }
         ensures { slice_get (on_channel self.now channel.now) i ≡ Some result.now }
     {
-        match rows::nth_on(self.rows.as_slice(), channel, i as usize) {
+        match self.index.nth(channel, i) {
             Some(row) => row,
             None => unreachable!(),
         }
+    }
+
+    /// The channel's subscriptions in the order of joining, from `sub(channel, 0)` on.
+    pub fn walk<'a>(&'a self, channel: &Text) -> SubWalk<'a>
+        ensures { result ≡ on_channel self.now channel.now }
+    {
+        self.index.walk(channel)
     }
 
     /// How many channels the socket is subscribed to.
     pub fn channels(&self, socket: u64) -> u64
         ensures { result ≡ length (channels_in self.now socket) }
     {
-        rows::count_of(self.rows.as_slice(), socket) as u64
+        self.index.names(socket)
     }
 
     /// The socket's channel with this place in the order of the names' bytes, counted from 0.
@@ -138,7 +144,7 @@ impl Subs {
         requires { i < length (channels_in self.now socket) }
         ensures { slice_get (channels_in self.now socket) i ≡ Some result.now }
     {
-        match names::nth_name(self.rows.as_slice(), socket, i) {
+        match self.index.name(socket, i) {
             Some(name) => name,
             None => unreachable!(),
         }
@@ -149,6 +155,13 @@ impl Subs {
     pub fn next_name(&self, after: Option<&Text>) -> Option<&Text>
         ensures { option_copied result ≡ find (is_above (option_copied after.entry)) (names self.now) }
     {
-        names::next_name(self.rows.as_slice(), None, after)
+        self.index.next_name(after)
     }
+}
+
+/// Whether the socket is subscribed to the channel.
+fn is_on(index: &Index<Subscription>, socket: u64, channel: &Text) -> bool
+    ensures { result ≡ is_on index.now socket channel.now }
+{
+    index.has(socket, channel)
 }

@@ -1,4 +1,2 @@
-pub mod Once
 pub mod OfUser
-pub mod LeastUser
 pub mod Crossing

@@ -6,7 +6,6 @@
 #![tactic(auto)]
 
 mod holder;
-mod names;
 mod rows;
 mod user_rows;
 mod watches;

@@ -3,29 +3,27 @@ ghost use Rattle.ch_history.specs.SignIns.{user_socket, of_user, is_of, users_of
 ghost use Rattle.ch_watch.specs.Watches.{added, without};
 
 use crate::holder::Holder;
-use crate::{names, rows};
+use crate::rows;
 use ch_base::{Memory, Text};
 use ch_history::UserSocket;
+use ch_index::Index;
 use std::alloc::Global;
 use std::marker::Model;
 
-/// The sockets of users, by one plain list that is searched from end to end.
+/// The sockets of users, found by their user and by their socket.
 #[derive(Drop)]
 pub struct UserRows {
     alloc: Global,
-    rows: Vec<UserSocket>,
+    index: Index<UserSocket>,
 }
 
 impl Model for UserRows {
     ghost use Rattle.std.specs.Prelude.{List};
     ghost use Rattle.ch_history.specs.declared.rows.UserSocket.{UserSocket};
-    ghost use Rattle.ch_watch.specs.Watches.{EachOnce};
 
     ghost Value = { List UserSocket };
 
-    ghost view = { λ s. s.rows.items };
-
-    ghost invariant = { λ s. EachOnce s.rows.items };
+    ghost view = { λ s. s.index };
 }
 
 impl UserRows {
@@ -35,7 +33,7 @@ impl UserRows {
     {
         UserRows {
             alloc,
-            rows: Vec::new(alloc),
+            index: Index::new(alloc),
         }
     }
 
@@ -47,11 +45,11 @@ impl UserRows {
         ensures err { OnErr result (self.new ≡ self.old) }
         ensures already { IsTrue (is_of self.old socket user.now) → result ≡ Ok false }
     {
-        if rows::is_of(self.rows.as_slice(), socket, user) {
+        if rows::is_of(&self.index, socket, user) {
             return Ok(false);
         }
         let row = rows::row(self.alloc, socket, user, owner)?;
-        self.rows.push(row)?;
+        self.index.add(row)?;
         Ok(true)
     }
 
@@ -60,37 +58,35 @@ impl UserRows {
         ensures answer { result ≡ length (users_of self.old socket) }
         ensures rows { self.new ≡ without self.old socket }
     {
-        let count = rows::count_of(self.rows.as_slice(), socket);
-        rows::end_all(&mut self.rows, socket);
-        count as u64
+        self.index.lost(socket)
     }
 
     /// Whether the socket is one of the user's.
     pub fn is_of(&self, socket: u64, user: &Text) -> bool
         ensures { result ≡ is_of self.now socket user.now }
     {
-        rows::is_of(self.rows.as_slice(), socket, user)
+        rows::is_of(&self.index, socket, user)
     }
 
     /// Whether the user has a socket.
     pub fn has_any(&self, user: &Text) -> bool
         ensures { result ≡ has_any self.now user.now }
     {
-        rows::has_any(self.rows.as_slice(), user)
+        rows::has_any(&self.index, user)
     }
 
     /// Whether another socket is one of the user's.
     pub fn has_other(&self, socket: u64, user: &Text) -> bool
         ensures { result ≡ has_any (without self.now socket) user.now }
     {
-        rows::has_other(self.rows.as_slice(), socket, user)
+        rows::has_other(&self.index, socket, user)
     }
 
     /// How many sockets the user has.
     pub fn count(&self, user: &Text) -> u64
         ensures { result ≡ length (of_user self.now user.now) }
     {
-        rows::count(self.rows.as_slice(), user) as u64
+        self.index.count(user)
     }
 
     /// The user's socket with this place in the order of the calls, counted from 0.
@@ -98,7 +94,7 @@ impl UserRows {
         requires { i < length (of_user self.now user.now) }
         ensures { slice_get (of_user self.now user.now) i ≡ Some (user_socket result.owner result.socket user.now) }
     {
-        match rows::nth(self.rows.as_slice(), user, i as usize) {
+        match self.index.nth(user, i) {
             Some(row) => Holder {
                 socket: row.socket,
                 owner: row.owner,
@@ -111,7 +107,7 @@ impl UserRows {
     pub fn users_of(&self, socket: u64) -> u64
         ensures { result ≡ length (users_of self.now socket) }
     {
-        rows::count_of(self.rows.as_slice(), socket) as u64
+        self.index.names(socket)
     }
 
     /// The socket's user with this place in the order of the ids' bytes, counted from 0.
@@ -119,7 +115,7 @@ impl UserRows {
         requires { i < length (users_of self.now socket) }
         ensures { slice_get (users_of self.now socket) i ≡ Some result.now }
     {
-        match names::nth_user(self.rows.as_slice(), socket, i) {
+        match self.index.name(socket, i) {
             Some(user) => user,
             None => unreachable!(),
         }
@@ -129,6 +125,6 @@ impl UserRows {
     pub fn len(&self) -> u64
         ensures { result ≡ length self.now }
     {
-        self.rows.len() as u64
+        self.index.len()
     }
 }

@@ -1,7 +1,9 @@
-use Rattle.std.proofs.Common.{◌≡◌, ◌++◌, take}
+use Rattle.std.proofs.Common.{◌≡◌, ◌++◌}
 use Rattle.ch_history.specs.Subscriptions.{on_channel}
 use Rattle.ch_shard.specs.Told.{told}
 use Rattle.ch_shard.proofs.telling.tell.Given as goal
 
-abbrev pub invariant-loop-i : goal.invariant-loop-i
-invariant-loop-i l = l.made.items ≡ l.initial.made.items ++ told l.frame l.except (take l.i (on_channel l.subs l.channel))
+abbrev pub invariant-walk : goal.invariant-walk
+invariant-walk l =
+    goal.iterator-walk.can_next l.walk × goal.iterator-walk.is_finite l.walk
+    × (l.made.items ++ told l.frame l.except l.walk ≡ l.initial.made.items ++ told l.frame l.except (on_channel l.subs l.channel))

@@ -7,5 +7,5 @@ use Rattle.ch_watch.proofs.user_rows.UserRows.has_other.Goals as goal
 pub returns : goal.returns
 returns c =
     c.has_other.ensures
-    ∙ ap (λ xs. list_any (λ r. not (r.socket == c.args.socket)) (of_user xs c.args.user.now)) (c.as_slice.ensures.value ∙ c.self.view_is)
+    ∙ ap (λ xs. list_any (λ r. not (r.socket == c.args.socket)) (of_user xs c.args.user.now)) c.self.view_is
     ∙ has_any-without c.args.self.now c.args.socket c.args.user.now

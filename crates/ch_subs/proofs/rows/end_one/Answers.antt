@@ -1,6 +1,0 @@
-use Rattle.std.proofs.Common.{rules, not, ◌==◌, ◌&&◌, bytes_eq}
-use Rattle.std.proofs.lemmas.Fn.{filter_same}
-use Rattle.ch_subs.proofs.rows.end_one.Goals as goal
-
-pub returns : goal.returns
-returns c = filter_same _ (λ s. not ((s.socket == c.args.socket) && bytes_eq s.channel c.args.channel.now)) _ (λ x b f k. search rules) _ _ c.retain.ensures.filtered

@@ -1,7 +1,0 @@
-use Rattle.std.proofs.Common.{rules, tests}
-use Rattle.std.proofs.lemmas.Iterator.{YieldsList-from_slice}
-use Rattle.std.proofs.lemmas.Iterator.Consumers.{YieldsList-from_filter, nth_from_yields_List}
-use Rattle.ch_watch.proofs.rows.nth.Goals as goal
-
-pub returns : goal.returns
-returns c = nth_from_yields_List _ _ _ c.nth.ensures.ran (YieldsList-from_filter _ _ (YieldsList-from_slice c.args.rows.now cc) c.filter.ensures.closure (λ x r q k. search (rules, tests)))
