@@ -1,12 +1,12 @@
 -- What the webhook thread does at its desk, one thing after another.
-use Rattle.std.proofs.Common.{◌≡◌, ℕ, ◌+◌, List, [], ◌∷◌, ◌++◌, length, refl, ap, ap₂, sym, ◌∙◌, subst, append-nil, length-append, arith}
-use Rattle.std.specs.Prelude.{Result, flat_map}
+use Rattle.std.proofs.Common.{◌≡◌, ℕ, ◌+◌, List, [], ◌∷◌, ◌++◌, refl, ap, ap₂, sym, ◌∙◌, subst, append-nil, length-append, arith}
+use Rattle.std.specs.Prelude.{Result}
 use Rattle.std.proofs.lemmas.List.{map-append}
 use Rattle.std.proofs.lemmas.List.Concat.{flat_map-append}
 use Rattle.std.proofs.lemmas.List.FromFn.{map-range_with_len_more}
 use Rattle.ch_base.specs.declared.channel.ChanCall.TheVariants.{TakeHooks}
 use Rattle.ch_base.specs.declared.memory.Memory.{Memory}
-use Rattle.ch_batch.specs.Deeds.{Deed, steps}
+use Rattle.ch_batch.specs.Deeds.{steps}
 use Rattle.ch_batch.specs.Gathers.{IsGathered, takes}
 use Rattle.ch_batch.specs.Laws.{CollectsChain}
 use Rattle.ch_batch.specs.Steps.{after_step}

@@ -1,5 +1,5 @@
 -- The threads of the workers before they start.
-use Rattle.std.proofs.Common.{◌≡◌, ℕ, List, [], ◌∷◌, ◌++◌, length, Some, sym, ◌∙◌, ap, subst}
+use Rattle.std.proofs.Common.{◌≡◌, ℕ, List, [], ◌∷◌, ◌++◌, length, Some, sym, subst}
 use Rattle.std.specs.Prelude.{slice_get}
 use Rattle.ch_config.specs.declared.config.Config.{Config}
 use Rattle.ch_house.proofs.Places.{each_more}

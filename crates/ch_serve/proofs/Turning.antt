@@ -5,7 +5,7 @@ use Rattle.ch_house.specs.DeskViews.{NamesTellHouses}
 use Rattle.ch_io.specs.Counts.{raised}
 use Rattle.ch_worker.proofs.Counts.{raised_none}
 use Rattle.ch_worker.specs.Laws.{TurnsChain, TurnsCount}
-use Rattle.ch_worker.specs.Runs.{Took, TakesTurns}
+use Rattle.ch_worker.specs.Runs.{TakesTurns}
 use Rattle.ch_worker.specs.Turns.{Course, Moment, TakesCourse}
 use Rattle.ch_serve.specs.Served.{Seat, Turned, scene_of}
 use Rattle.std.proofs.Common.{sym}

@@ -35,7 +35,7 @@ impl<'a, A: Accept> AcceptingThread<'a, A> {
     }
 
     /// One call of `accept`. It wakes the workers where a connection waits for them.
-    fn accept_one<R: Wait, W: Wake + Drop>(&mut self, rt: &R, bells: &Bells<W>)
+    pub fn accept_one<R: Wait, W: Wake + Drop>(&mut self, rt: &R, bells: &Bells<W>)
         requires { self.old.numbered < 2 ^ 62 }
         ensures came { (came : Came A.Conn)
             × Comes self.old.pass.caller came (door self.old.pass self.old.numbered) (door self.new.pass self.new.numbered) }

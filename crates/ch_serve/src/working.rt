@@ -44,7 +44,7 @@ impl<'a, L: Link, P: Park<L>> WorkerThread<'a, L, P> {
     }
 
     /// One turn, and the rest after it.
-    fn turn<R: Wait>(&mut self, rt: &R, bells: &Bells<P::Waker>)
+    pub fn turn<R: Wait>(&mut self, rt: &R, bells: &Bells<P::Waker>)
         requires { IsSeated self.old }
         ensures turned { Turned 1 self.old self.new }
         ensures seated { IsSeated self.new }

@@ -1,12 +1,14 @@
 //! A server of two workers with one connection, in real threads.
+ghost use Rattle.std.specs.Prelude.{◌≡◌, length, IfOk};
+
 use crate::noted::{FlaggedAccept, NotedLink, NotedPost, Notes, has_noted};
 use crate::stage::{Owner, Stage, StagedClock};
 use ch_base::Memory;
 use ch_config::Config;
-use ch_edge::{MemAccept, MemPark};
+use ch_edge::{Accept, MemAccept, MemPark, Park};
 use ch_house::ShardCount;
-use ch_io::{MemClock, MemPost};
-use ch_net::{MemLink, OtherSide, Script};
+use ch_io::{MemClock, MemPost, Post};
+use ch_net::{Link, MemLink, OtherSide, Script};
 use ch_serve::serve;
 use std::alloc::Global;
 use std::sync::{Mutex, Wait};
@@ -23,8 +25,7 @@ const OPENED: &str =
 const SUBSCRIBED: &str =
     r#"{"event":"pusher_internal:subscription_succeeded","channel":"a","data":"{}"}"#;
 
-const WEBHOOK: &str =
-    r#"{"time_ms":0,"events":[{"name":"channel_occupied","channel":"a"}]}"#;
+const WEBHOOK: &str = r#"{"time_ms":0,"events":[{"name":"channel_occupied","channel":"a"}]}"#;
 
 /// How a run ended: its status, the counts of the channel shard and of the user shard, each worker's turns, and how many
 /// connections the workers took together.
@@ -48,11 +49,7 @@ fn accept_of<'a>(
     let link = MemLink::new(alloc, bytes, Vec::new(alloc), OtherSide::Stays, never);
     let link = NotedLink { alloc, link, notes };
     Ok(FlaggedAccept {
-        accept: MemAccept::new(
-            vec![in alloc; link]?,
-            Vec::new(alloc),
-            Vec::new(alloc),
-        ),
+        accept: MemAccept::new(vec![in alloc; link]?, Vec::new(alloc), Vec::new(alloc)),
         calls: 0,
         flag: &stage.handed_on,
     })
@@ -68,25 +65,25 @@ fn clock_of(alloc: Global, stage: &Stage, owner: Owner) -> StagedClock<'_> {
     }
 }
 
-/// Eight turns of each thread, and what came of them; None where the status isn't 0.
-fn serve_one<R: Wait + Threads + Sync>(
+/// Eight turns of each thread with these, and what came of them; None where the status isn't 0.
+fn outcome_of<R, A, C, P>(
     rt: &R,
     alloc: Global,
-    notes: (&Notes, &Notes),
-    stage: &Stage,
-) -> Result<Option<Outcome>, Memory> {
+    accept: A,
+    clocks: Vec<C>,
+    post: P,
+) -> Result<Option<Outcome>, Memory>
+where
+    R: Wait + Threads + Sync,
+    A: Accept + Send + Drop,
+    A::Conn: Send,
+    <A::Conn as Link>::Wire: Send,
+    C: Park<A::Conn> + Send + Drop,
+    C::Waker: Send + Sync,
+    P: Post + Drop,
+    requires { length clocks.items ≡ 3 }
+{
     let config = Config::built_in(alloc)?;
-    let accept = accept_of(alloc, notes.0, stage)?;
-    let clocks = vec![in alloc;
-        clock_of(alloc, stage, Owner::FirstWorker),
-        clock_of(alloc, stage, Owner::SecondWorker),
-        clock_of(alloc, stage, Owner::Webhooks),
-    ]?;
-    let post = NotedPost {
-        alloc,
-        post: MemPost::new(alloc, vec![in alloc; 200]?, Vec::new(alloc)),
-        notes: notes.1,
-    };
     let ran = serve(rt, alloc, &config, accept, clocks, Some(post), 8);
     if ran.status != 0 {
         return Ok(None);
@@ -109,6 +106,34 @@ fn serve_one<R: Wait + Threads + Sync>(
     }))
 }
 
+/// The clocks of two workers and of the webhook thread.
+fn clocks_of(alloc: Global, stage: &Stage) -> Result<Vec<StagedClock<'_>>, Memory>
+    ensures { IfOk result (λ clocks. length clocks.items ≡ 3) }
+{
+    let mut clocks = Vec::new(alloc);
+    clocks.push(clock_of(alloc, stage, Owner::FirstWorker))?;
+    clocks.push(clock_of(alloc, stage, Owner::SecondWorker))?;
+    clocks.push(clock_of(alloc, stage, Owner::Webhooks))?;
+    Ok(clocks)
+}
+
+/// What comes of one connection, of clocks that wait for one another, and of a receiver that answers 200.
+fn serve_one<'a, R: Wait + Threads + Sync>(
+    rt: &R,
+    alloc: Global,
+    notes: (&'a Notes, &'a Notes),
+    stage: &'a Stage,
+) -> Result<Option<Outcome>, Memory> {
+    let clocks = clocks_of(alloc, stage)?;
+    let post = NotedPost {
+        alloc,
+        post: MemPost::new(alloc, vec![in alloc; 200]?, Vec::new(alloc)),
+        notes: notes.1,
+    };
+    let accept = accept_of(alloc, notes.0, stage)?;
+    outcome_of(rt, alloc, accept, clocks, post)
+}
+
 #[test]
 fn workers_and_webhooks_share_a_house(rt: HostRuntime) -> Result<(), Fail> {
     let alloc = rt.alloc();
@@ -117,13 +142,22 @@ fn workers_and_webhooks_share_a_house(rt: HostRuntime) -> Result<(), Fail> {
     let stage = Stage::new();
     let outcome = serve_one(&rt, alloc, (&frames, &bodies), &stage)?;
     assert!(rt; !stage.is_late());
-    assert_eq!(rt; outcome, Some(Outcome {
-        status: 0,
-        chan: ShardCount { entries: 25, left: 1 },
-        user: ShardCount { entries: 16, left: 0 },
-        turns: vec![in alloc; 8, 8]?,
-        taken: 1,
-    }));
+    assert_eq!(rt;
+        outcome,
+        Some(Outcome {
+            status: 0,
+            chan: ShardCount {
+                entries: 25,
+                left: 1
+            },
+            user: ShardCount {
+                entries: 16,
+                left: 0
+            },
+            turns: vec![in alloc; 8, 8]?,
+            taken: 1,
+        })
+    );
     assert!(rt; has_noted(&frames, &[OPENED, SUBSCRIBED]));
     assert!(rt; has_noted(&bodies, &[WEBHOOK]));
     Ok(())

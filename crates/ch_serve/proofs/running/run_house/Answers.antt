@@ -1,6 +1,6 @@
-use Rattle.std.proofs.Common.{◌≡◌, ℕ, ◌+◌, ◌<◌, ◌≤◌, length, get_or, set, None, Some, ap, sym, ◌∙◌, subst, arith, length-set}
+use Rattle.std.proofs.Common.{◌≡◌, ℕ, ◌+◌, length, get_or, None, ap, sym, ◌∙◌, subst, arith, length-set}
 use Rattle.std.proofs.lemmas.Option.{same_Some}
-use Rattle.ch_house.specs.Houses.{HouseModel, PassesListModel, PassesModel, ArePassesOf, fresh_passes}
+use Rattle.ch_house.specs.Houses.{PassesListModel, PassesModel, fresh_passes}
 use Rattle.ch_serve.proofs.Finishing.{all_seated, still_own, worked}
 use Rattle.ch_serve.proofs.Places.{emptied_next}
 use Rattle.ch_serve.specs.Webhooks.{Rounds}

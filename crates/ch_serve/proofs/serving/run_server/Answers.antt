@@ -1,10 +1,9 @@
-use Rattle.std.proofs.Common.{◌≡◌, ◌+◌, ◌<◌, ℕ, ap, sym, ◌∙◌, subst, arith}
+use Rattle.std.proofs.Common.{ap, sym, ◌∙◌, subst, arith}
 use Rattle.ch_house.specs.Houses.{HouseModel}
 use Rattle.ch_worker.specs.Workers.{WorkerView}
 use Rattle.std.proofs.Common.{List}
 use Rattle.ch_serve.proofs.Finishing.{served, whole}
 use Rattle.ch_serve.specs.Served.{IsShardedBy, Served}
-use Rattle.ch_serve.specs.Webhooks.{Rounds}
 use Rattle.ch_serve.proofs.serving.run_server.Goals as goal
 
 pub close-closed-requires-clause-all : goal.close-closed-requires-clause-all
