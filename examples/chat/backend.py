@@ -1,5 +1,6 @@
 """The chat's back end. It serves the page, lets people in under a name, signs their subscriptions and sign-ins, publishes
 what they write by the HTTP API, and takes the server's webhooks. `run` starts it beside the server."""
+import contextlib
 import hmac
 import json
 import os
@@ -120,8 +121,10 @@ def back_end_for(app):
             self.send_response(status)
             self.send_header("Content-Type", kind)
             self.send_header("Content-Length", str(len(body)))
-            self.end_headers()
-            self.wfile.write(body)
+            # who posts webhooks reads the status line alone, and may be gone before the rest is written
+            with contextlib.suppress(ConnectionError):
+                self.end_headers()
+                self.wfile.write(body)
 
         def log_message(self, *_):
             pass  # the log is for webhooks
