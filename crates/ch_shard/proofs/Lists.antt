@@ -16,21 +16,6 @@ more (y ∷ ys) (suc i) x is = ap (λ zs. y ∷ zs) (more ys i x is)
 pub take-next : {X : Type 0} (xs : List X) (i : ℕ) (x : X) → slice_get xs i ≡ Some x → take (i + 1) xs ≡ take i xs ++ x ∷ []
 take-next xs i x is = let next : i + 1 ≡ suc i = omega arith in ap (λ n. take n xs) next ∙ more xs i x is
 
--- something passes that is there
-pub list_any-there : {X : Type 0} (p : X → Bool) (xs : List X) (i : ℕ) (x : X) → slice_get xs i ≡ Some x → p x ≡ true → list_any p xs ≡ true
-list_any-there p [] i x is passes = cc
-list_any-there p (y ∷ ys) zero x is passes = let same : y ≡ x = cc in ap (λ b. b || list_any p ys) (ap p same ∙ passes)
-list_any-there p (y ∷ ys) (suc i) x is passes =
-    elim (p y) as (λ b. (b || list_any p ys) ≡ true) [
-      | true ↦ refl
-      | false ↦ list_any-there p ys i x is passes
-    ]
-
--- nothing so far passes, and the next doesn't
-pub list_any-next : {X : Type 0} (p : X → Bool) (xs : List X) (i : ℕ) (x : X) → slice_get xs i ≡ Some x → p x ≡ false → list_any p (take i xs) ≡ false → list_any p (take (i + 1) xs) ≡ false
-list_any-next p xs i x is fails none =
-    ap (list_any p) (take-next xs i x is) ∙ list_any-append p (take i xs) (x ∷ []) ∙ ap₂ ◌||◌ none (ap (λ b. b || false) fails)
-
 -- nothing is left where nothing passes
 pub is_empty-filter : {X : Type 0} (p : X → Bool) (xs : List X) → is_empty (filter p xs) ≡ not (list_any p xs)
 is_empty-filter p [] = refl
@@ -48,12 +33,3 @@ flat_map-same f g (x ∷ xs) same = ap₂ ◌++◌ (same x) (flat_map-same f g x
 pub flat_map-next : {X Y : Type 0} (f : X → List Y) (xs : List X) (i : ℕ) (x : X) → slice_get xs i ≡ Some x → flat_map f (take i xs) ++ f x ≡ flat_map f (take (i + 1) xs)
 flat_map-next f xs i x is =
     sym (ap (flat_map f) (take-next xs i x is) ∙ flat_map-append f (take i xs) (x ∷ []) ∙ ap (λ ys. flat_map f (take i xs) ++ ys) (append-nil (f x)))
-
--- a map of what passes, with one more
-pub passing-next : {X Y : Type 0} (f : X → Y) (p : X → Bool) (xs : List X) (i : ℕ) (x : X) (made : List Y) → slice_get xs i ≡ Some x
-    → (made ++ map f (filter p (take i xs))) ++ map f (filter p (x ∷ [])) ≡ made ++ map f (filter p (take (i + 1) xs))
-passing-next f p xs i x made is =
-    append_assoc made (map f (filter p (take i xs))) (map f (filter p (x ∷ [])))
-    ∙ ap (λ ys. made ++ ys) (sym (ap (λ zs. map f (filter p zs)) (take-next xs i x is)
-    ∙ ap (map f) (filter-append p (take i xs) (x ∷ []))
-    ∙ map-append f (filter p (take i xs)) (filter p (x ∷ []))))
