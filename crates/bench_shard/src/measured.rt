@@ -44,10 +44,7 @@ pub fn measure<R: Print + Clock + Files + AllocGlobal>(
     let each = taken / subscriptions.max(1);
     println!(rt;
         "{subscriptions} subscriptions: publish to 1000 {} ns, join {} ns, leave {} ns, loss {} ns; {each} bytes each",
-        costs.publish,
-        costs.join,
-        costs.leave,
-        costs.loss
+        costs.publish, costs.join, costs.leave, costs.loss
     )?;
     Ok(costs)
 }

@@ -33,10 +33,7 @@ pub enum ReplyForm {
     /// The channels with a subscription.
     Channels(Wanted),
     /// Whether a channel has a subscription, its counts, and its latest event where that was asked for.
-    Channel {
-        counts: Wanted,
-        cache: bool,
-    },
+    Channel { counts: Wanted, cache: bool },
     /// The users of a presence channel.
     Users,
 }

@@ -139,7 +139,11 @@ fn frame_word(frame: &Frame) -> &'static str {
 }
 
 /// Adds an answer, in words.
-pub(crate) fn push_answer(alloc: Global, words: &mut String, answer: &ChanAnswer) -> Result<(), Fail> {
+pub(crate) fn push_answer(
+    alloc: Global,
+    words: &mut String,
+    answer: &ChanAnswer,
+) -> Result<(), Fail> {
     match answer {
         ChanAnswer::Frames(frames) => {
             for item in frames.as_slice() {
