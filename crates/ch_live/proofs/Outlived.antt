@@ -102,7 +102,7 @@ joined_holds chan_answer.Said is = cc
 joined_holds (chan_answer.Frames frames) is = cc
 joined_holds (chan_answer.Hooks hooks) is = cc
 joined_holds (chan_answer.Rows rows) is = cc
-joined_holds (chan_answer.Looked subs users) is = cc
+joined_holds (chan_answer.Looked subs users cache) is = cc
 joined_holds (chan_answer.Ids ids) is = cc
 
 signed_holds : (a : UserAnswer) → is_signed_in a ≡ true → holds (made.User a) ≡ true
