@@ -1,17 +1,18 @@
 -- The least of ascending ids above one: how it changes with one more id, and that it is the next one in their list.
-use Rattle.std.proofs.Common.{◌≡◌, ℕ, zero, suc, ◌<◌, Bool, true, false, ◌&&◌, ◌||◌, cond, List, [], ◌∷◌, ◌++◌, Option, Some, None, Ordering, Less, Equal, Greater, find, map, length, take, slice_get, slice_index_or, bytes_eq, refl, ap, sym, ◌∙◌, append-nil, arith}
+use Rattle.std.proofs.Common.{◌≡◌, ℕ, zero, suc, ◌<◌, Bool, true, false, ◌&&◌, ◌||◌, cond, List, [], ◌∷◌, ◌++◌, Option, Some, None, Ordering, Less, Equal, Greater, find, map, length, slice_get, bytes_eq, refl, ap, sym, ◌∙◌, append-nil, append_assoc, arith}
 use Rattle.std.specs.List.{list_all}
 use Rattle.std.specs.Ordering.{is_lt, is_eq}
 use Rattle.std.proofs.lemmas.Cmp.{nat_list_cmp_total}
 use Rattle.std.proofs.lemmas.Map.Text.{is_eq-slice_cmp}
-use Rattle.std.proofs.lemmas.List.Elements.{filter-append}
+use Rattle.std.proofs.lemmas.List.{map-append}
+use Rattle.ch_base.specs.declared.channel.Member.{Member}
 use Rattle.ch_history.specs.Texts.{is_before, has_text, place, ascending}
 use Rattle.ch_history.proofs.Lists.{both}
 use Rattle.ch_history.proofs.Texts.{same_text, text_itself, has_text-ascending}
 use Rattle.ch_history.proofs.Ascending.{compared, IsAscending, IsAscending-ascending, IsAscending-place, ascending-push}
 use Rattle.ch_presence.specs.declared.present.Present.{Present}
 use Rattle.ch_presence.specs.Members.{present_on, ids_on}
-use Rattle.ch_presence.specs.Users.{is_above, is_lower, least_with}
+use Rattle.ch_presence.specs.Users.{is_above, is_lower, least_with, users_of}
 
 -- The order of ids
 
@@ -102,31 +103,30 @@ find-more q xs x =
     ]) refl
 
 -- the ids of these rows' users
-abbrev pub ids_of : List Present → List (List ℕ)
+abbrev ids_of : List Present → List (List ℕ)
 ids_of rows = map (λ m. m.user_id) (map (λ r. r.member) rows)
 
-ids_of-push : (rows : List Present) (r : Present) → ids_of (rows ++ r ∷ []) ≡ ids_of rows ++ r.member.user_id ∷ []
-ids_of-push [] r = refl
-ids_of-push (x ∷ rows) r = ap (λ zs. x.member.user_id ∷ zs) (ids_of-push rows r)
+-- the least id with those of these rows, one after another
+abbrev pub least_from : Option (List ℕ) → Option (List ℕ) → List Present → Option (List ℕ)
+least_from after least [] = least
+least_from after least (r ∷ rows) = least_from after (least_with after least r.member.user_id) rows
 
--- the ids of one more row's channel
-pub ids_on-push : (rows : List Present) (r : Present) (c : List ℕ) → ids_on (rows ++ r ∷ []) c ≡ cond (bytes_eq r.channel c) (ascending (ids_of (present_on rows c) ++ r.member.user_id ∷ [])) (ids_on rows c)
-ids_on-push rows r c =
-    let its : List Present = present_on rows c in
-    ap (λ ys. ascending (ids_of ys)) (filter-append (λ r. bytes_eq r.channel c) rows (r ∷ []))
-    ∙ elim (bytes_eq r.channel c) as (λ b. ascending (ids_of (its ++ cond b (r ∷ []) [])) ≡ cond b (ascending (ids_of its ++ r.member.user_id ∷ [])) (ids_on rows c)) [
-      | true ↦ ap ascending (ids_of-push its r)
-      | false ↦ ap (λ ys. ascending (ids_of ys)) (append-nil its)
-    ]
+find-least_from : (after : Option (List ℕ)) (xs : List (List ℕ)) (rows : List Present) → least_from after (find (is_above after) (ascending xs)) rows ≡ find (is_above after) (ascending (xs ++ ids_of rows))
+find-least_from after xs [] = ap (λ ys. find (is_above after) (ascending ys)) (sym (append-nil xs))
+find-least_from after xs (r ∷ rows) =
+    ap (λ o. least_from after o rows) (sym (find-more (is_above after) xs r.member.user_id))
+    ∙ find-least_from after (xs ++ r.member.user_id ∷ []) rows
+    ∙ ap (λ ys. find (is_above after) (ascending ys)) (append_assoc xs (r.member.user_id ∷ []) (ids_of rows))
 
--- the least id above one, with one more row
-pub find-ids_on : (after : Option (List ℕ)) (rows : List Present) (r : Present) (c : List ℕ) → find (is_above after) (ids_on (rows ++ r ∷ []) c) ≡ least_with (find (is_above after) (ids_on rows c)) r c after
-find-ids_on after rows r c =
-    ap (find (is_above after)) (ids_on-push rows r c)
-    ∙ elim (bytes_eq r.channel c) as (λ b. find (is_above after) (cond b (ascending (ids_of (present_on rows c) ++ r.member.user_id ∷ [])) (ids_on rows c)) ≡ cond (b && (is_above after r.member.user_id && is_lower r.member.user_id (find (is_above after) (ids_on rows c)))) (Some r.member.user_id) (find (is_above after) (ids_on rows c))) [
-      | true ↦ find-more (is_above after) (ids_of (present_on rows c)) r.member.user_id
-      | false ↦ refl
-    ]
+-- the least id above one of a channel's users, by its rows one after another
+pub least_on : (after : Option (List ℕ)) (rows : List Present) (c : List ℕ) → least_from after None (present_on rows c) ≡ find (is_above after) (ids_on rows c)
+least_on after rows c = find-least_from after [] (present_on rows c)
+
+-- the least id above one, with one more member
+pub least_more : (after : Option (List ℕ)) (ms : List Member) (m : Member) → find (is_above after) (users_of (ms ++ m ∷ [])) ≡ least_with after (find (is_above after) (users_of ms)) m.user_id
+least_more after ms m =
+    ap (λ ys. find (is_above after) (ascending ys)) (map-append (λ m. m.user_id) ms (m ∷ []))
+    ∙ find-more (is_above after) (map (λ m. m.user_id) ms) m.user_id
 
 -- The next id
 
@@ -143,8 +143,13 @@ passes_at p [] k inside all = absurd (omega arith)
 passes_at p (y ∷ ys) zero inside all = (y, refl, (both (p y) (list_all p ys) all).0)
 passes_at p (y ∷ ys) (suc k) inside all = passes_at p ys k (omega arith) (both (p y) (list_all p ys) all).1
 
+pub within : (ys : List (List ℕ)) (k : ℕ) (x : List ℕ) → slice_get ys k ≡ Some x → k < length ys
+within [] k x at = cc
+within (y ∷ ys) zero x at = omega arith
+within (y ∷ ys) (suc k) x at = let rest = within ys k x at in omega (arith, rest)
+
 -- the least id above one in an ascending list is the one after it
-pub id_after : (ys : List (List ℕ)) (k : ℕ) → IsAscending ys → k < length ys → find (is_above (slice_get ys k)) ys ≡ slice_get ys (suc k)
+id_after : (ys : List (List ℕ)) (k : ℕ) → IsAscending ys → k < length ys → find (is_above (slice_get ys k)) ys ≡ slice_get ys (suc k)
 id_after [] k up inside = absurd (omega arith)
 id_after (y ∷ ys) zero up inside = ap (λ b. cond b (Some y) (find (is_before y) ys)) (before_itself y) ∙ find_all (is_before y) ys up.0
 id_after (y ∷ ys) (suc k) up inside =
@@ -152,14 +157,13 @@ id_after (y ∷ ys) (suc k) up inside =
     let below : is_above (slice_get ys k) y ≡ false = ap (λ o. is_above o y) at.1 ∙ not_both y at.0 at.2 in
     ap (λ b. cond b (Some y) (find (is_above (slice_get ys k)) ys)) below ∙ id_after ys k up.1 (omega arith)
 
--- a place within a list has an element
-pub some_at : {X : Type 0} (xs : List X) (k : ℕ) → k < length xs → slice_get xs k ≡ None → ⊥
-some_at [] k inside none = omega arith
-some_at (x ∷ xs) zero inside none = cc
-some_at (x ∷ xs) (suc k) inside none = some_at xs k (omega arith) none
+-- the least id above the one with a place has the next place
+pub id_next : (ys : List (List ℕ)) (k : ℕ) (x : List ℕ) → IsAscending ys → slice_get ys k ≡ Some x → find (is_above (Some x)) ys ≡ slice_get ys (suc k)
+id_next ys k x up at = ap (λ o. find (is_above o) ys) (sym at) ∙ id_after ys k up (within ys k x at)
 
--- a loop that goes on by one has one more element
-pub take_more : (xs : List Present) (i : ℕ) (x : Present) → i < length xs → x ≡ slice_index_or xs i x → take (suc i) xs ≡ take i xs ++ x ∷ []
-take_more [] i x inside is = absurd (omega arith)
-take_more (y ∷ ys) zero x inside is = ap (λ z. z ∷ []) (sym is)
-take_more (y ∷ ys) (suc i) x inside is = ap (λ zs. y ∷ zs) (take_more ys i x (omega arith) is)
+-- after a place without an element there is none
+pub none_later : (ys : List (List ℕ)) (k n : ℕ) → k < n → slice_get ys k ≡ None → slice_get ys n ≡ None
+none_later [] k n later none = refl
+none_later (y ∷ ys) zero n later none = cc
+none_later (y ∷ ys) (suc k) zero later none = absurd (omega arith)
+none_later (y ∷ ys) (suc k) (suc n) later none = none_later ys k n (omega arith) none

@@ -8,6 +8,7 @@ use Rattle.ch_history.proofs.Lists.{both, list_any-map}
 use Rattle.ch_history.proofs.Texts.{text_itself, has_text-ascending}
 use Rattle.ch_presence.specs.declared.present.Present.{Present}
 use Rattle.ch_presence.specs.Members.{present_on, members_on, ids_on, rows_on}
+use Rattle.ch_presence.specs.Users.{users_of, infos_of}
 
 -- Whether a user is there
 
@@ -71,15 +72,17 @@ slice_get-filter_map f (x ∷ xs) (suc k) all =
     next_place f x xs k parts.0 ∙ slice_get-filter_map f xs k parts.1
 
 -- each id that is there is of a member
-all_found : (rows : List Present) (c : List ℕ) → list_all (λ id. is_some (find (λ m. bytes_eq m.user_id id) (members_on rows c))) (ids_on rows c) ≡ true
-all_found rows c =
-    let ms : List Member = members_on rows c in
-    all_there (λ id. is_some (find (λ m. bytes_eq m.user_id id) ms)) (ids_on rows c)
+all_found : (ms : List Member) → list_all (λ id. is_some (find (λ m. bytes_eq m.user_id id) ms)) (users_of ms) ≡ true
+all_found ms =
+    all_there (λ id. is_some (find (λ m. bytes_eq m.user_id id) ms)) (users_of ms)
     (λ id there. found id ms
     (sym (list_any-map (λ y. bytes_eq y id) (λ m. m.user_id) ms) ∙ sym (has_text-ascending id (map (λ m. m.user_id) ms)) ∙ there))
 
+pub slice_get-infos_of : (ms : List Member) (k : ℕ) → slice_get (infos_of ms) k ≡ option_and_then (λ id. find (λ m. bytes_eq m.user_id id) ms) (slice_get (users_of ms) k)
+slice_get-infos_of ms k = slice_get-filter_map (λ id. find (λ m. bytes_eq m.user_id id) ms) (users_of ms) k (all_found ms)
+
 pub slice_get-rows_on : (rows : List Present) (c : List ℕ) (k : ℕ) → slice_get (rows_on rows c) k ≡ option_and_then (λ id. find (λ m. bytes_eq m.user_id id) (members_on rows c)) (slice_get (ids_on rows c) k)
-slice_get-rows_on rows c k = slice_get-filter_map (λ id. find (λ m. bytes_eq m.user_id id) (members_on rows c)) (ids_on rows c) k (all_found rows c)
+slice_get-rows_on rows c k = slice_get-infos_of (members_on rows c) k
 
 -- there are as many of them as ids
 length-filter_map : {X Y : Type 0} (f : X → Option Y) (xs : List X) → list_all (λ x. is_some (f x)) xs ≡ true → length (filter_map f xs) ≡ length xs
@@ -99,5 +102,5 @@ some_at (x ∷ xs) (suc k) inside none = some_at xs k (omega arith) none
 -- at a place within the ids there is a user
 pub some_user : (rows : List Present) (c : List ℕ) (k : ℕ) → k < length (ids_on rows c) → slice_get (rows_on rows c) k ≡ None → ⊥
 some_user rows c k inside none =
-    let as_many : length (rows_on rows c) ≡ length (ids_on rows c) = length-filter_map (λ id. find (λ m. bytes_eq m.user_id id) (members_on rows c)) (ids_on rows c) (all_found rows c) in
+    let as_many : length (rows_on rows c) ≡ length (ids_on rows c) = length-filter_map (λ id. find (λ m. bytes_eq m.user_id id) (members_on rows c)) (ids_on rows c) (all_found (members_on rows c)) in
     some_at (rows_on rows c) k (omega (arith, as_many)) none

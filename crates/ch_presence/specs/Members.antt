@@ -5,10 +5,9 @@ use Rattle.ch_base.specs.declared.channel.Member.{Member}
 use Rattle.ch_history.specs.Texts.{ascending}
 use Rattle.ch_presence.specs.declared.present.Present.{Present}
 
--- who is present on the channels, the oldest first, and for how many more rows there is room
+-- who is present on the channels, the oldest first
 pub record Roster : Type 0 where
   pub rows : List Present
-  pub spare : ℕ
 
 -- the socket is on the channel c as this member
 abbrev pub present : List ℕ → ℕ → Member → Present

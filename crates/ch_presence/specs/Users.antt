@@ -1,12 +1,20 @@
--- The users of a channel, one after another.
-use Rattle.std.specs.Prelude.{ℕ, Bool, true, not, ◌&&◌, ◌==◌, List, bytes_eq, Option, Some, None, if◌then◌else◌}
-use Rattle.ch_history.specs.Texts.{is_before, has_text}
-use Rattle.ch_presence.specs.declared.present.Present.{Present}
-use Rattle.ch_presence.specs.Members.{ids_on}
+-- The users of a channel, one after another, by the channel's members in the order of joining.
+use Rattle.std.specs.Prelude.{ℕ, Bool, true, ◌&&◌, List, [], ◌∷◌, ◌++◌, bytes_eq, find, filter_map, map, Option, Some, None, if◌then◌else◌}
+use Rattle.ch_base.specs.declared.channel.Member.{Member}
+use Rattle.ch_history.specs.Texts.{ascending, is_before}
 
--- whether the row brings the channel c a user that none of these rows has
-abbrev pub is_new : List Present → Present → List ℕ → Bool
-is_new rows r c = bytes_eq r.channel c && not (has_text (ids_on rows c) r.member.user_id)
+-- the members, and then the newcomer, where there is one
+abbrev pub with_member : List Member → Option Member → List Member
+with_member ms None = ms
+with_member ms (Some m) = ms ++ m ∷ []
+
+-- the ids of the members' users, each once, ascending
+abbrev pub users_of : List Member → List (List ℕ)
+users_of ms = ascending (map (λ m. m.user_id) ms)
+
+-- each user of the members, ascending by its id, with the info of its first one
+abbrev pub infos_of : List Member → List Member
+infos_of ms = filter_map (λ id. find (λ m. bytes_eq m.user_id id) ms) (users_of ms)
 
 -- whether the id comes after the given one, where one is given
 abbrev pub is_above : Option (List ℕ) → List ℕ → Bool
@@ -18,16 +26,6 @@ abbrev pub is_lower : List ℕ → Option (List ℕ) → Bool
 is_lower id None = true
 is_lower id (Some least) = is_before id least
 
--- the least id with this row's one, where that is on the channel c and comes after the given one
-abbrev pub least_with : Option (List ℕ) → Present → List ℕ → Option (List ℕ) → Option (List ℕ)
-least_with least r c after =
-    if bytes_eq r.channel c && (is_above after r.member.user_id && is_lower r.member.user_id least) then Some r.member.user_id else least
-
--- whether the row is on the channel c with another socket than this one
-abbrev pub is_other : List ℕ → ℕ → Present → Bool
-is_other c socket r = bytes_eq r.channel c && not (r.socket == socket)
-
--- the first row where there is one, or else this one, where it is on the channel c as the user
-abbrev pub first_with : Option Present → Present → List ℕ → List ℕ → Option Present
-first_with (Some first) r c id = Some first
-first_with None r c id = if bytes_eq r.channel c && bytes_eq r.member.user_id id then Some r else None
+-- the least id with this one, where that comes after the given one
+abbrev pub least_with : Option (List ℕ) → Option (List ℕ) → List ℕ → Option (List ℕ)
+least_with after least id = if is_above after id && is_lower id least then Some id else least

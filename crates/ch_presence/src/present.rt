@@ -2,6 +2,7 @@ ghost use Rattle.std.specs.Prelude.{◌≡◌, IfOk};
 ghost use Rattle.ch_presence.specs.Members.{present};
 
 use ch_base::{Member, Memory, Text};
+use ch_index::Row;
 use std::alloc::Global;
 
 /// A socket that is on a presence channel as a member.
@@ -27,5 +28,24 @@ impl Present {
             socket,
             member: member.copy(alloc)?,
         })
+    }
+}
+
+/// A row is found by its channel and its socket.
+impl Row for Present {
+    ghost name = { λ r. r.channel };
+
+    ghost socket = { λ r. r.socket };
+
+    fn name(&self) -> &Text {
+        &self.channel
+    }
+
+    fn socket(&self) -> u64 {
+        self.socket
+    }
+
+    fn copy(&self, alloc: Global) -> Result<Present, Memory> {
+        Present::of(alloc, &self.channel, self.socket, &self.member)
     }
 }

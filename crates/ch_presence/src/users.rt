@@ -1,116 +1,96 @@
-ghost use Rattle.std.specs.Prelude.{◌≡◌, ◌<◌, ◌≤◌, [], ◌∷◌, ◌++◌, length, find, slice_get};
+ghost use Rattle.std.specs.Prelude.{◌≡◌, ◌&&◌, length, find, slice_get, Some, if◌then◌else◌};
 ghost use Rattle.std.specs.Option.{option_copied};
-ghost use Rattle.ch_presence.specs.Members.{ids_on, rows_on, with_newcomer};
-ghost use Rattle.ch_presence.specs.Users.{is_new, is_above, is_lower, least_with};
+ghost use Rattle.ch_presence.specs.Members.{members_on, ids_on};
+ghost use Rattle.ch_presence.specs.Users.{is_above, is_lower, least_with, with_member, users_of, infos_of};
 
 use crate::present::Present;
-use crate::rows::{first_member, has_user};
+use crate::rows::first_member;
 use ch_base::{Member, Text};
+use ch_index::Index;
 
 /// How many users are on the channel.
-pub fn count(rows: &[Present], channel: &Text) -> usize
-    ensures count { result ≡ length (ids_on rows.now channel.now) }
-    ensures bound { result ≤ length rows.now }
+pub fn count(index: &Index<Present>, channel: &Text) -> u64
+    ensures { result ≡ length (ids_on index.now channel.now) }
 {
-    let mut count = 0;
-    for at in 0..rows.len() {
-        if is_new(&rows[..at], &rows[at], channel) {
-            count += 1;
+    let rows = index.count(channel);
+    let mut id = next_id(index, channel, None);
+    for place in 0..rows {
+        match id {
+            None => return place,
+            Some(last) => id = next_id(index, channel, Some(last)),
         }
     }
-    count
-}
-
-/// How many users are on the newcomer's channel once it is there too.
-pub fn count_with(rows: &[Present], newcomer: &Present) -> usize
-    ensures { result ≡ length (ids_on (rows.now ++ newcomer.now ∷ []) newcomer.now.channel) }
-{
-    let users = count(rows, &newcomer.channel);
-    if is_new(rows, newcomer, &newcomer.channel) {
-        users + 1
-    } else {
-        users
-    }
-}
-
-/// Whether the row brings the channel a user that none of these rows has.
-fn is_new(rows: &[Present], row: &Present, channel: &Text) -> bool
-    ensures { result ≡ is_new rows.now row.now channel.now }
-{
-    row.channel == *channel && !has_user(rows, channel, &row.member.user_id)
+    rows
 }
 
 /// The user with this place in the order of the ids, counted from 0, with the info of its oldest row.
-/// The newcomer counts as the last row.
+/// The newcomer counts as the last member.
 pub fn nth_user<'a>(
-    rows: &'a [Present],
-    newcomer: Option<&'a Present>,
+    index: &'a Index<Present>,
+    newcomer: Option<&'a Member>,
     channel: &Text,
     at: u64,
 ) -> Option<&'a Member>
-    requires { at < length (ids_on (with_newcomer rows.now (option_copied newcomer)) channel.now) }
-    ensures { option_copied result ≡ slice_get (rows_on (with_newcomer rows.now (option_copied newcomer.entry)) channel.now) at }
+    ensures { option_copied result ≡ slice_get (infos_of (with_member (members_on index.now channel.now) (option_copied newcomer.entry))) at }
 {
-    let id = nth_id(rows, newcomer, channel, at)?;
-    first_member(rows, newcomer, channel, id)
+    let id = nth_id(index, newcomer, channel, at)?;
+    first_member(index, newcomer, channel, id)
 }
 
 /// The id with this place among those of the channel's users, ascending, counted from 0.
 fn nth_id<'a>(
-    rows: &'a [Present],
-    newcomer: Option<&'a Present>,
+    index: &'a Index<Present>,
+    newcomer: Option<&'a Member>,
     channel: &Text,
     at: u64,
 ) -> Option<&'a Text>
-    requires { at < length (ids_on (with_newcomer rows.now (option_copied newcomer)) channel.now) }
-    ensures { option_copied result ≡ slice_get (ids_on (with_newcomer rows.now (option_copied newcomer.entry)) channel.now) at }
+    ensures { option_copied result ≡ slice_get (users_of (with_member (members_on index.now channel.now) (option_copied newcomer.entry))) at }
 {
-    let mut id = next_of_all(rows, newcomer, channel, None);
+    let mut id = next_of_all(index, newcomer, channel, None);
     for place in 0..at {
-        id = next_of_all(rows, newcomer, channel, id);
+        match id {
+            None => return None,
+            Some(last) => id = next_of_all(index, newcomer, channel, Some(last)),
+        }
     }
     id
 }
 
-/// The least id of the channel's users that comes after the given one, if one is given.
+/// The least id of the channel's users that comes after the given one, if one is given. The newcomer
+/// counts as the last member.
 fn next_of_all<'a>(
-    rows: &'a [Present],
-    newcomer: Option<&'a Present>,
+    index: &'a Index<Present>,
+    newcomer: Option<&'a Member>,
     channel: &Text,
     after: Option<&Text>,
 ) -> Option<&'a Text>
     ensures { option_copied result ≡ find (is_above (option_copied after.entry))
-        (ids_on (with_newcomer rows.now (option_copied newcomer.entry)) channel.now) }
+        (users_of (with_member (members_on index.now channel.now) (option_copied newcomer.entry))) }
 {
-    let least = next_id(rows, channel, after);
+    let least = next_id(index, channel, after);
     match newcomer {
-        Some(newcomer) => least_with(least, newcomer, channel, after),
+        Some(newcomer) => least_with(least, &newcomer.user_id, after),
         None => least,
     }
 }
 
-/// The least id of these rows of the channel that comes after the given one, if one is given.
-fn next_id<'a>(rows: &'a [Present], channel: &Text, after: Option<&Text>) -> Option<&'a Text>
-    ensures { option_copied result ≡ find (is_above (option_copied after.entry)) (ids_on rows.now channel.now) }
+/// The least id of the channel's rows that comes after the given one, if one is given.
+fn next_id<'a>(index: &'a Index<Present>, channel: &Text, after: Option<&Text>) -> Option<&'a Text>
+    ensures { option_copied result ≡ find (is_above (option_copied after.entry)) (ids_on index.now channel.now) }
 {
     let mut least: Option<&'a Text> = None;
-    for row in rows {
-        least = least_with(least, row, channel, after);
+    let mut walk = index.walk(channel);
+    'walk: while let Some(row) = walk.next() {
+        least = least_with(least, &row.member.user_id, after);
     }
     least
 }
 
-/// The least id with this row's one, where that counts.
-fn least_with<'a>(
-    least: Option<&'a Text>,
-    row: &'a Present,
-    channel: &Text,
-    after: Option<&Text>,
-) -> Option<&'a Text>
-    ensures { option_copied result ≡ least_with (option_copied least.entry) row.now channel.now (option_copied after.entry) }
+/// The least id with this one, where that counts.
+fn least_with<'a>(least: Option<&'a Text>, id: &'a Text, after: Option<&Text>) -> Option<&'a Text>
+    ensures { option_copied result ≡ least_with (option_copied after.entry) (option_copied least.entry) id.now }
 {
-    let id = &row.member.user_id;
-    if row.channel == *channel && is_above(after, id) && is_lower(id, least) {
+    if is_above(after, id) && is_lower(id, least) {
         Some(id)
     } else {
         least

@@ -1,6 +1,5 @@
 -- The users of a channel, one after another.
-use Rattle.std.proofs.Common.{◌≡◌, ℕ, suc, ◌≤◌, Bool, true, false, cond, List, [], ◌∷◌, Option, Some, None, filter_map, find, bytes_eq, length, slice_get, option_and_then, refl, ap, sym, ◌∙◌, arith}
-use Rattle.std.specs.List.{cons_option}
+use Rattle.std.proofs.Common.{◌≡◌, ℕ, zero, suc, ◌+◌, ◌<◌, ◌≤◌, Bool, true, false, cond, List, [], ◌∷◌, ◌++◌, Some, None, find, bytes_eq, length, slice_get, option_and_then, refl, ap, sym, ◌∙◌, arith}
 use Rattle.ch_base.specs.declared.channel.Member.{Member}
 use Rattle.ch_history.proofs.Texts.{same_text}
 use Rattle.ch_presence.specs.declared.present.Present.{Present}
@@ -24,15 +23,18 @@ id_at rows c k m is =
       | Some id ↦ (λ h. ap (λ u. Some u) (sym (same_text m.user_id id (found_passes (λ m. bytes_eq m.user_id id) ms m h))))
     ]) (sym (slice_get-rows_on rows c k) ∙ is)
 
-length-filter_map : {X Y : Type 0} (f : X → Option Y) (xs : List X) → length (filter_map f xs) ≤ length xs
-length-filter_map f [] = omega arith
-length-filter_map f (x ∷ xs) =
-    let rest = length-filter_map f xs in
-    elim (f x) as (λ o. length (cons_option o (filter_map f xs)) ≤ suc (length xs)) [
-      | None ↦ omega arith
-      | Some y ↦ omega arith
-    ]
+-- an element has a place before the end
+pub inside : {X : Type 0} (xs : List X) (k : ℕ) (x : X) → slice_get xs k ≡ Some x → k < length xs
+inside [] k x at = cc
+inside (y ∷ xs) zero x at = omega arith
+inside (y ∷ xs) (suc k) x at = let rest = inside xs k x at in omega (arith, rest)
 
--- there are no more users than ids
-pub rows_within : (rows : List Present) (c : List ℕ) → length (rows_on rows c) ≤ length (ids_on rows c)
-rows_within rows c = length-filter_map (λ id. find (λ m. bytes_eq m.user_id id) (members_on rows c)) (ids_on rows c)
+-- a place without an element is behind the last one
+pub behind : {X : Type 0} (xs : List X) (k : ℕ) → slice_get xs k ≡ None → length xs ≤ k
+behind [] k none = omega arith
+behind (y ∷ xs) zero none = cc
+behind (y ∷ xs) (suc k) none = let rest = behind xs k none in omega (arith, rest)
+
+pub length-push : {X : Type 0} (xs : List X) (x : X) → length (xs ++ x ∷ []) ≡ length xs + 1
+length-push [] x = refl
+length-push (y ∷ xs) x = let rest = length-push xs x in omega (arith, rest)

@@ -40,8 +40,7 @@ fn member_rows(alloc: Global, presence: &Presence, newcomer: &Present) -> Result
     ensures { IfOk result (λ rows. rows ≡ rows_on (presence.now.rows ++ newcomer.now ∷ []) newcomer.now.channel) }
 {
     let mut rows = MemberList::new(alloc);
-    for i in 0..presence.count_with(newcomer) {
-        let member = presence.row_with(newcomer, i);
+    while let Some(member) = presence.row_with(newcomer, rows.len() as u64) {
         let copy = member.copy(alloc)?;
         rows.push(copy)?;
     }

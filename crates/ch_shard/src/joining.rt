@@ -1,4 +1,4 @@
-ghost use Rattle.std.specs.Prelude.{◌≡◌, ◌<◌, ◌&&◌, not, length, nat_le, IfOk, IsTrue, MatchResult};
+ghost use Rattle.std.specs.Prelude.{◌≡◌, ◌<◌, ◌&&◌, not, length, nat_le, IfOk, IsTrue, MatchResult, OnOk, OnErr};
 ghost use Rattle.std.specs.Option.{option_copied};
 ghost use Rattle.ch_history.specs.Answers.{is_crowded};
 ghost use Rattle.ch_history.specs.ChannelName.{is_good_name, is_presence};
@@ -48,9 +48,14 @@ impl Channels {
         let hooks = self.greeting_hooks(channel, member, now)?;
         let made = Made { frames, hooks };
         make_room(&mut self.outbox, &mut self.log, &made)?;
-        self.presence.reserve(1)?;
         self.subs.join(socket, channel, caller, member)?;
-        enter(&mut self.presence, row);
+        match enter(&mut self.presence, row.as_ref()) {
+            Ok(()) => {}
+            Err(memory) => {
+                self.subs.leave(socket, channel);
+                return Err(memory);
+            }
+        }
         hand_over(&mut self.outbox, &mut self.log, made);
         Ok(ChanAnswer::Joined)
     }
@@ -149,13 +154,17 @@ fn newcomer_row(
     }
 }
 
-/// Puts the newcomer's row, where there is one. It takes no memory.
-fn enter(presence: &mut Presence, row: Option<Present>)
-    requires room { 0 < presence.old.spare }
-    requires absent { IsAbsent presence.old.rows row }
-    ensures { presence.new.rows ≡ with_newcomer presence.old.rows row }
+/// Puts the newcomer on its channel, where it has a row. Nobody comes after want of memory.
+fn enter(presence: &mut Presence, row: Option<&Present>) -> Result<(), Memory>
+    requires { IsAbsent presence.old.rows (option_copied row) }
+    ensures ok { OnOk result (presence.new.rows ≡ with_newcomer presence.old.rows (option_copied row.entry)) }
+    ensures err { OnErr result (presence.new.rows ≡ presence.old.rows) }
 {
-    if let Some(row) = row {
-        presence.put(row);
+    match row {
+        None => Ok(()),
+        Some(row) => match presence.join(&row.channel, row.socket, &row.member) {
+            Ok(_) => Ok(()),
+            Err(memory) => Err(memory),
+        },
     }
 }

@@ -1,5 +1,5 @@
 use ch_base::{Member, Memory, Text};
-use ch_presence::{Presence, Present};
+use ch_presence::Presence;
 use std::alloc::Global;
 use std::test::Fail;
 
@@ -21,15 +21,6 @@ fn join(
         return Ok(None);
     }
     Ok(Some(presence.join(channel, socket, member)?))
-}
-
-/// The same in two steps.
-fn reserve_and_put(presence: &mut Presence, row: Present) -> Result<Option<bool>, Memory> {
-    if presence.is_present(&row.channel, row.socket) {
-        return Ok(None);
-    }
-    presence.reserve(1)?;
-    Ok(Some(presence.put(row)))
 }
 
 fn row<'a>(presence: &'a Presence, channel: &Text, i: u64) -> Option<&'a Member> {
@@ -62,8 +53,7 @@ fn users_ascend_by_their_ids(rt: HostRuntime) -> Result<(), Fail> {
     let room = Text::of(alloc, "presence-r")?;
     let mut presence = Presence::new(alloc);
     for (socket, id) in [(1, "v"), (2, "u10"), (3, "u2"), (4, "u10"), (5, "V")] {
-        let newcomer = Present::of(alloc, &room, socket, &member(alloc, id, "null")?)?;
-        let is_new = reserve_and_put(&mut presence, newcomer)?;
+        let is_new = join(&mut presence, &room, socket, &member(alloc, id, "null")?)?;
         assert_eq!(rt; is_new, Some(socket != 4));
     }
     for (place, id) in [(0, "V"), (1, "u10"), (2, "u2"), (3, "v")] {

@@ -1,9 +1,7 @@
-use Rattle.std.proofs.Common.{◌≡◌, ◌≤◌, length, take}
+use Rattle.std.proofs.Common.{◌≡◌, ◌≤◌, length, slice_get}
+use Rattle.std.specs.Option.{option_copied}
 use Rattle.ch_presence.specs.Members.{ids_on}
 use Rattle.ch_presence.proofs.users.count.Given as goal
 
-abbrev pub invariant-loop-at : goal.invariant-loop-at
-invariant-loop-at l = record {
-  counted : l.count ≡ length (ids_on (take l.at l.rows) l.channel);
-  bound : l.count ≤ l.at;
-}
+abbrev pub invariant-loop-place : goal.invariant-loop-place
+invariant-loop-place l = (option_copied l.id ≡ slice_get (ids_on l.index l.channel) l.place) × (l.place ≤ length (ids_on l.index l.channel))

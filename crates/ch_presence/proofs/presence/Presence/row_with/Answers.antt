@@ -1,12 +1,13 @@
-use Rattle.std.proofs.Common.{◌<◌, ◌∙◌, [], ◌∷◌, ◌++◌, ap, sym, subst, length}
-use Rattle.std.specs.Option.{option_copied}
-use Rattle.ch_presence.specs.Members.{ids_on}
-use Rattle.ch_presence.proofs.NthUser.{some_user}
+use Rattle.std.proofs.Common.{◌∙◌, [], ◌∷◌, ◌++◌, ap, sym, slice_get, List}
+use Rattle.ch_presence.specs.declared.present.Present.{Present}
+use Rattle.ch_presence.specs.Members.{rows_on}
+use Rattle.ch_presence.specs.Users.{infos_of}
+use Rattle.ch_presence.proofs.FirstRow.{members_on-push}
 use Rattle.ch_presence.proofs.presence.Presence.row_with.Goals as goal
 
-pub unreachable-requires : goal.unreachable-requires
-unreachable-requires c =
-    let newcomer = c.args.newcomer.now in
-    let inside : c.args.i < length (ids_on (c.as_slice.result.now ++ newcomer ∷ []) newcomer.channel) =
-    subst (λ rows. c.args.i < length (ids_on (rows ++ newcomer ∷ []) newcomer.channel)) (sym (c.as_slice.ensures.value ∙ ap (λ r. r.rows) c.self.view_is)) c.requires in
-    some_user (c.as_slice.result.now ++ newcomer ∷ []) newcomer.channel c.args.i inside (sym c.nth_user.ensures ∙ ap option_copied c.in-None.is)
+pub returns : goal.returns
+returns c =
+    let n = c.args.newcomer.now in
+    c.nth_user.ensures
+    ∙ ap (λ ms. slice_get (infos_of ms) c.args.i) (sym (members_on-push c.self.inside.index n))
+    ∙ ap (λ (rows : List Present). slice_get (rows_on (rows ++ n ∷ []) n.channel) c.args.i) (ap (λ r. r.rows) c.self.view_is)

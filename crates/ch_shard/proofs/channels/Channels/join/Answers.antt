@@ -1,15 +1,19 @@
-use Rattle.std.proofs.Common.{◌≡◌, ◌∙◌, ◌++◌, ◌∷◌, [], List, Option, false, cond, All, ap, ap₂, sym, subst}
+use Rattle.std.proofs.Common.{◌≡◌, ◌∙◌, ◌++◌, ◌∷◌, [], List, false, cond, All, ap, sym, subst}
 use Rattle.std.specs.Option.{option_copied}
 use Rattle.ch_history.specs.declared.rows.Subscription.{Subscription}
 use Rattle.ch_history.specs.Subscriptions.{is_on}
 use Rattle.ch_presence.specs.declared.present.Present.{Present}
 use Rattle.ch_presence.specs.Members.{with_newcomer}
-use Rattle.ch_shard.specs.Greeting.{newcomer_row, IsAbsent}
+use Rattle.ch_shard.specs.Greeting.{IsAbsent}
 use Rattle.ch_shard.specs.Parts.{Parts, newcomer}
 use Rattle.ch_shard.specs.Sound.{IsSound}
 use Rattle.ch_shard.proofs.Greetings.{absent_is}
 use Rattle.ch_shard.proofs.Owners.{OwnsSub, OwnsFrame, join_owned}
 use Rattle.ch_shard.proofs.Sounds.{IsSound-join}
+use Rattle.ch_shard.proofs.Stays.{join_undone}
+use Rattle.ch_subs.specs.Subs.{without_one}
+use Rattle.ch_cache.specs.Latest.{latest_in}
+use Rattle.ch_outbox.specs.Outbox.{frames_of}
 use Rattle.ch_shard.proofs.channels.Channels.join.Goals as goal
 
 pub make_room-requires : goal.make_room-requires
@@ -24,24 +28,48 @@ hand_over-requires-clause-owners c =
     let P = λ (k : Parts). All OwnsSub k.subs in
     subst (All OwnsFrame) (sym c.in_ok-frames.ensures) (join_owned c.args.self.now c.args.now n (subst P c.self.view_is c.self.invariant.owners) c.requires.caller)
 
-pub enter-requires-clause-absent : goal.enter-requires-clause-absent
-enter-requires-clause-absent c =
+pub enter-requires : goal.enter-requires
+enter-requires c =
     let d = c.args.channel.now in
     let socket = c.args.socket in
     let member = option_copied c.args.member in
     let xs : List Subscription = c.self.inside.subs in
     let off : is_on xs socket d ≡ false = sym c.on.ensures ∙ c.if-on.false in
-    let P = λ (o : Option Present). IsAbsent c.reserve.new.self.rows o in
-    let Q = λ (rs : List Present). IsAbsent rs (newcomer_row d socket member) in
-    subst P (sym c.in_ok-row.ensures) (subst Q (sym c.in_ok-reserve.ensures.rows) (absent_is xs c.self.inside.presence.rows socket d member c.self.invariant off))
+    subst (IsAbsent c.self.inside.presence.rows) (sym (c.as_ref-2.ensures.value ∙ c.in_ok-row.ensures)) (absent_is xs c.self.inside.presence.rows socket d member c.self.invariant off)
+
+pub invariant_of-self-in-Err : goal.invariant_of-self-in-Err
+invariant_of-self-in-Err c =
+    let xs : List Subscription = c.self.inside.subs in
+    let d = c.args.channel.now in
+    let n : Subscription = newcomer c.args.caller c.args.socket d (option_copied c.args.member) in
+    let off : is_on xs c.args.socket d ≡ false = sym c.on.ensures ∙ c.if-on.false in
+    let joined : c.join.new.self ≡ xs ++ n ∷ [] = c.in_ok-join.ensures.ok ∙ ap (λ b. cond b xs (xs ++ n ∷ [])) off in
+    let undone : c.leave.new.self ≡ xs = c.leave.ensures.subs ∙ ap (λ ys. without_one ys c.args.socket d) joined ∙ join_undone xs n off in
+    let P = λ (ys : List Subscription). IsSound ys c.enter.new.presence.rows in
+    subst P (sym undone) (subst (IsSound xs) (sym c.in-Err.ensures.err) c.self.invariant)
+
+pub returns-in-Err : goal.returns-in-Err
+returns-in-Err c =
+    let xs : List Subscription = c.self.inside.subs in
+    let d = c.args.channel.now in
+    let n : Subscription = newcomer c.args.caller c.args.socket d (option_copied c.args.member) in
+    let off : is_on xs c.args.socket d ≡ false = sym c.on.ensures ∙ c.if-on.false in
+    let joined : c.join.new.self ≡ xs ++ n ∷ [] = c.in_ok-join.ensures.ok ∙ ap (λ b. cond b xs (xs ++ n ∷ [])) off in
+    record {
+      subs = c.leave.ensures.subs ∙ ap (λ ys. without_one ys c.args.socket d) joined ∙ join_undone xs n off ∙ ap (λ (k : Parts). k.subs) c.self.view_is;
+      latest = λ e at. ap (λ (k : Parts). latest_in k.cache e at) c.self.view_is;
+      frames = λ w. c.make_room.ensures.frames w ∙ ap (λ (k : Parts). frames_of k.outbox w) c.self.view_is;
+      log = c.make_room.ensures.hooks ∙ ap (λ (k : Parts). k.log) c.self.view_is;
+    }
 
 pub invariant_of-self-2 : goal.invariant_of-self-2
 invariant_of-self-2 c =
     let xs : List Subscription = c.self.inside.subs in
     let n : Subscription = newcomer c.args.caller c.args.socket c.args.channel.now (option_copied c.args.member) in
-    let now : c.join.new.self ≡ xs ++ n ∷ [] = c.in_ok-join.ensures.ok ∙ ap (λ b. cond b xs (xs ++ n ∷ [])) (sym c.on.ensures ∙ c.if-on.false) in
+    let off : is_on xs c.args.socket c.args.channel.now ≡ false = sym c.on.ensures ∙ c.if-on.false in
+    let now : c.join.new.self ≡ xs ++ n ∷ [] = c.in_ok-join.ensures.ok ∙ ap (λ b. cond b xs (xs ++ n ∷ [])) off in
     let P = λ (ys : List Subscription). IsSound ys c.enter.new.presence.rows in
     let Q = λ (rs : List Present). IsSound (xs ++ n ∷ []) rs in
     subst P (sym now)
-    (subst Q (sym (c.enter.ensures ∙ ap₂ with_newcomer c.in_ok-reserve.ensures.rows c.in_ok-row.ensures))
+    (subst Q (sym (c.in-Ok.ensures.ok ∙ ap (with_newcomer c.self.inside.presence.rows) (c.as_ref-2.ensures.value ∙ c.in_ok-row.ensures)))
     (IsSound-join xs c.self.inside.presence.rows n c.requires.caller c.requires.member c.self.invariant))
