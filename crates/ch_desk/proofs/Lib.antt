@@ -1,3 +1,4 @@
+pub mod EmptySeats
 pub mod Answering
 pub mod UserAnswering
 pub mod Seats
