@@ -133,17 +133,12 @@ fn frame_word(frame: &Frame) -> &'static str {
         Frame::Succeeded { .. } => "succeeded ",
         Frame::Present { .. } => "present ",
         Frame::Event { .. } => "event ",
-        Frame::Miss { .. } => "miss ",
         _ => "another ",
     }
 }
 
 /// Adds an answer, in words.
-pub(crate) fn push_answer(
-    alloc: Global,
-    words: &mut String,
-    answer: &ChanAnswer,
-) -> Result<(), Fail> {
+fn push_answer(alloc: Global, words: &mut String, answer: &ChanAnswer) -> Result<(), Fail> {
     match answer {
         ChanAnswer::Frames(frames) => {
             for item in frames.as_slice() {

@@ -3,8 +3,6 @@
 #![tactic(auto)]
 
 #[cfg(test)]
-mod cached_events;
-#[cfg(test)]
 mod chan_shard;
 #[cfg(test)]
 mod user_shard;
