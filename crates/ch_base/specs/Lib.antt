@@ -3,3 +3,7 @@ pub mod Grammar
 pub mod Growth
 pub mod JsonText
 pub mod JsonTree
+pub mod ErrorTexts
+pub mod Events
+pub mod PresenceData
+pub mod Printed

@@ -83,7 +83,7 @@ pub enum ChanCall {
 }
 
 /// What a channel shard answers.
-#[derive(Debug, PartialEq, Eq, Drop)]
+#[derive(Debug, Drop)]
 pub enum ChanAnswer {
     Joined,
     /// The socket is subscribed to the channel already.

@@ -38,7 +38,7 @@ pub enum UserCall {
 }
 
 /// What a user shard answers.
-#[derive(Debug, PartialEq, Eq, Drop)]
+#[derive(Debug, Drop)]
 pub enum UserAnswer {
     SignedIn,
     /// The socket is signed in as this user already.

@@ -1,4 +1,3 @@
-pub mod Joined
 pub mod ShapesOf
 pub mod FaultsOf
 pub mod VerdictsOf

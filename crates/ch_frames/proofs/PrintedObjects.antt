@@ -6,10 +6,10 @@ use Rattle.std.specs.Cmp.Lexicographic.{other_text}
 use Rattle.ch_base.specs.Escape.{escaped_byte, quoted}
 use Rattle.ch_base.specs.declared.frame.Frame.{Frame}
 use Rattle.ch_base.specs.declared.frame.Frame.TheVariants.{Opened, Error, Ping, Pong, Succeeded, Present, Added, Removed, Event, Miss, SignedIn, Watch, Kill}
-use Rattle.ch_protocol.specs.ErrorTexts.{error_text}
-use Rattle.ch_protocol.specs.Events.{connection_event, channel_event, member_event, bare_event}
-use Rattle.ch_protocol.specs.PresenceData.{roster, arrival, departure}
-use Rattle.ch_protocol.specs.Printed.{printed, greeting, presence_word, change}
+use Rattle.ch_base.specs.ErrorTexts.{error_text}
+use Rattle.ch_base.specs.Events.{connection_event, channel_event, member_event, bare_event}
+use Rattle.ch_base.specs.PresenceData.{roster, arrival, departure}
+use Rattle.ch_base.specs.Printed.{printed, greeting, presence_word, change}
 use Rattle.ch_frames.specs.PrintedFrames.{event_name, IsPrintable, IsEventObject}
 use Rattle.ch_frames.proofs.ObjectTexts.{IsValueText, value_text, quoted_text, Field, rest, AreFields, AreOthers, object_text, object_spelled, first_string}
 use Rattle.ch_frames.proofs.ValueTexts.{decimal_text, single_spelled, empty_object}

@@ -10,7 +10,6 @@ pub mod Lists
 pub mod Cuts
 pub mod PartsOf
 pub mod Nodes
-pub mod Escaped
 pub mod OneText
 pub mod Digits
 pub mod Escapes

@@ -9,7 +9,6 @@ mod classes;
 mod doc;
 mod entry;
 mod error;
-mod escape;
 mod find;
 mod laws;
 mod node;
@@ -21,9 +20,9 @@ mod span;
 mod string_state;
 mod unescape_string;
 
+pub use ch_print::{escape_into, quoted};
 pub use doc::Doc;
 pub use error::JsonError;
-pub use escape::{escape_into, quoted};
 pub use laws::{most_levels, one_list, one_text, one_tree, value_alone};
 pub use node::{Form, Found, Node};
 pub use parse::read;

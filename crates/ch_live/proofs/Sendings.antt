@@ -5,7 +5,7 @@ use Rattle.std.proofs.lemmas.List.{map-append}
 use Rattle.ch_base.specs.declared.frame.Frame.{Frame}
 use Rattle.ch_net.specs.Wires.{WireTold, WireMoves}
 use Rattle.ch_net.proofs.Moving.{WireMoves-none, WireMoves-then}
-use Rattle.ch_protocol.specs.Printed.{printed}
+use Rattle.ch_base.specs.Printed.{printed}
 use Rattle.ch_live.specs.Backlogs.{Held, still_waiting}
 use Rattle.ch_live.specs.Sent.{SendsFirst, StopsAt}
 use Rattle.ch_live.specs.declared.sending.Sending.{Sending}

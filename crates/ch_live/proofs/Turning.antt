@@ -13,7 +13,7 @@ use Rattle.ch_io.proofs.Counting.{Rose-after}
 use Rattle.ch_net.specs.Wires.{WireTold, WireMoves}
 use Rattle.ch_net.specs.declared.wire.Message.{Message}
 use Rattle.ch_net.proofs.Moving.{WireMoves-then}
-use Rattle.ch_protocol.specs.Printed.{printed}
+use Rattle.ch_base.specs.Printed.{printed}
 use Rattle.ch_protocol.specs.Settling.{SettledAsk}
 use Rattle.ch_session.specs.Kept.{Kept, IsSession, IsOver}
 use Rattle.ch_live.specs.Answers.{TurnHasCause, last_texts, closing_codes, LastHasCause}

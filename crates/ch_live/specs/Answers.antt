@@ -4,7 +4,7 @@ use Rattle.ch_base.specs.declared.frame.Frame.TheVariants.{Error}
 use Rattle.ch_io.specs.Counts.{Rose}
 use Rattle.ch_io.specs.declared.counts.Counts.{Counts}
 use Rattle.ch_net.specs.declared.wire.Message.{Message}
-use Rattle.ch_protocol.specs.Printed.{printed}
+use Rattle.ch_base.specs.Printed.{printed}
 use Rattle.ch_live.specs.declared.turn.Turn.{Turn}
 use Rattle.ch_live.specs.declared.turn.Turn.TheVariants.{Idle, Ended}
 use Rattle.ch_live.specs.declared.turn.End.TheVariants as end

@@ -4,7 +4,7 @@ use Rattle.ch_base.specs.declared.frame.Frame.{Frame}
 use Rattle.ch_io.specs.Counts.{Rose}
 use Rattle.ch_io.specs.declared.counts.Counts.{Counts}
 use Rattle.ch_net.specs.Wires.{WireTold, WireMoves}
-use Rattle.ch_protocol.specs.Printed.{printed}
+use Rattle.ch_base.specs.Printed.{printed}
 use Rattle.ch_live.specs.Backlogs.{Held, still_waiting}
 use Rattle.ch_live.specs.declared.sending.Sending.{Sending}
 use Rattle.ch_live.specs.declared.sending.Sending.TheVariants.{All, Waiting, Memory, Failed}

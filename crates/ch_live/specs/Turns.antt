@@ -9,7 +9,7 @@ use Rattle.ch_dispatch.specs.Outcomes.{frames_in, end_in}
 use Rattle.ch_net.specs.Wires.{WireTold, WireMoves}
 use Rattle.ch_net.specs.declared.wire.Message.{Message}
 use Rattle.ch_protocol.specs.Asks.{Asked}
-use Rattle.ch_protocol.specs.Printed.{printed}
+use Rattle.ch_base.specs.Printed.{printed}
 use Rattle.ch_protocol.specs.Settling.{SettledAsk}
 use Rattle.ch_rate.specs.Quiet.{Quiet, quiet_from}
 use Rattle.ch_session.specs.Judging.{known}

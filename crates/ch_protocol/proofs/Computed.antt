@@ -10,7 +10,7 @@ use Rattle.percent_encoding.specs.Percent.{percent_decode}
 use Rattle.sha2.specs.Sha256.{sha256, digest_bytes, hash_after, compress, rounds, schedule, first_words}
 use Rattle.ch_base.specs.Escape.{escaped_byte, quoted}
 use Rattle.ch_sig.specs.Hmac.{hmac}
-use Rattle.ch_protocol.specs.ErrorTexts.{error_text}
+use Rattle.ch_base.specs.ErrorTexts.{error_text}
 use Rattle.ch_protocol.specs.Examples.{Frames}
 use Rattle.ch_protocol.specs.TargetExamples.{TargetExamples}
 use Rattle.ch_protocol.specs.SessionExamples.{Subscribes, Says, SignsIn, Authorized, Outcomes, Settled}

@@ -2,7 +2,7 @@
 use Rattle.std.specs.Prelude.{◌≡◌, [], ◌∷◌, codes, true, false, None, Some}
 use Rattle.ch_base.specs.declared.channel.Member.{Member}
 use Rattle.ch_base.specs.declared.frame.Frame.TheVariants.{Opened, Error, Ping, Pong, Succeeded, Present, Added, Removed, Event, Miss, SignedIn, Watch, Kill}
-use Rattle.ch_protocol.specs.Printed.{printed}
+use Rattle.ch_base.specs.Printed.{printed}
 
 abbrev pub u_2 : Member
 u_2 = record { user_id = codes "u"; info = codes "2" }

@@ -1,7 +1,3 @@
-pub mod ErrorTexts
-pub mod Events
-pub mod PresenceData
-pub mod Printed
 pub mod ObjectMembers
 pub mod UserChannels
 pub mod ClientMessages

@@ -5,7 +5,7 @@ use Rattle.std.specs.Char.{encode_utf8}
 use Rattle.std.specs.Fmt.{digits}
 use Rattle.hex.specs.Hex.{decode_pairs}
 use Rattle.ch_base.specs.Escape.{escaped_byte, quoted}
-use Rattle.ch_protocol.specs.ErrorTexts.{error_text}
+use Rattle.ch_base.specs.ErrorTexts.{error_text}
 use Rattle.ch_transcript.specs.Examples.{Lines, OnePublish, Excepted}
 use Rattle.ch_transcript.specs.RoundExamples.{Killed, Ticks, Others}
 

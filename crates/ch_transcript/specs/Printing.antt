@@ -8,7 +8,7 @@ use Rattle.ch_base.specs.declared.channel.ChanCall.TheVariants.{Join, Leave, Los
 use Rattle.ch_base.specs.declared.frame.Frame.{Frame}
 use Rattle.ch_base.specs.declared.frame.Frame.TheVariants.{Error}
 use Rattle.ch_history.specs.Entries.{ChanHistory}
-use Rattle.ch_protocol.specs.Printed.{printed}
+use Rattle.ch_base.specs.Printed.{printed}
 use Rattle.ch_requests.specs.Replies.{refusal}
 use Rattle.ch_requests.specs.declared.reply.Reply.{Reply}
 

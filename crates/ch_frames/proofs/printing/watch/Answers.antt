@@ -1,4 +1,0 @@
-use Rattle.ch_frames.proofs.printing.watch.Goals as goal
-
-pub returns : goal.returns
-returns c = simp (c.as_str.ensures.value, c.in_ok-body.ensures) at c.connection_event.ensures

@@ -1,0 +1,14 @@
+use Rattle.std.proofs.Common.{◌∙◌, ap, map}
+use Rattle.std.specs.Prelude.{string_bytes, codes}
+use Rattle.std.specs.List.{join_by}
+use Rattle.std.proofs.lemmas.List.{take_all}
+use Rattle.ch_base.specs.PresenceData.{id_of}
+use Rattle.ch_print.proofs.Joined.{join_by-pieces}
+use Rattle.ch_print.proofs.presence.ids.Goals as goal
+
+pub returns : goal.returns
+returns c =
+    let all = c.loop-row.invariant ∙ ap (map id_of) (take_all c.loop-row.row-index c.args.rows.now c.loop-row-test.false) in
+    c.in_ok-text.ensures.ok
+    ∙ ap (join_by string_bytes (codes ",")) c.deref.ensures.value
+    ∙ join_by-pieces string_bytes id_of (codes ",") c.loop-row.ids.items c.args.rows.now all
