@@ -32,7 +32,7 @@ unconcerned c (hook.Vacated d) differs = ap (λ b. cond b (Some false) None) dif
 unconcerned c _ differs = refl
 
 -- events that are the same about the channel have the same marks
-marks-about : (c : List ℕ) (xs ys : List Hook) → about c xs ≡ about c ys → marks c xs ≡ marks c ys
+pub marks-about : (c : List ℕ) (xs ys : List Hook) → about c xs ≡ about c ys → marks c xs ≡ marks c ys
 marks-about c xs ys alike =
     sym (filter_map-filter (occupancy c) (concerns c) xs (unconcerned c))
     ∙ ap (marks c) alike
