@@ -1,5 +1,5 @@
 -- A shard's history has no event of a channel that has its place on another shard.
-use Rattle.std.proofs.Common.{◌≡◌, ◌≢◌, ℕ, ◌==◌, Bool, true, false, cond, List, [], ◌∷◌, ◌++◌, Option, Some, None, bytes_eq, filter_map, refl, ap, ap₂, sym, ◌∙◌}
+use Rattle.std.proofs.Common.{◌≡◌, ◌≢◌, ℕ, ◌==◌, Bool, true, false, cond, List, [], ◌∷◌, ◌++◌, Option, Some, None, bytes_eq, refl, ap, ap₂, sym, ◌∙◌}
 use Rattle.std.specs.List.{filter, list_any}
 use Rattle.std.specs.Option.{option_to_list}
 use Rattle.std.proofs.lemmas.List.Elements.{filter_map-append}
@@ -8,7 +8,6 @@ use Rattle.ch_base.specs.declared.channel.ChanAnswer.{ChanAnswer}
 use Rattle.ch_base.specs.declared.channel.ChanCall.{ChanCall}
 use Rattle.ch_base.specs.declared.channel.ChanCall.TheVariants.{Join, Leave, Lost, Publish, Say, Take, TakeHooks, Names, Look, Users}
 use Rattle.ch_base.specs.declared.webhook.Hook.{Hook}
-use Rattle.ch_base.specs.declared.webhook.Hook.TheVariants as hook
 use Rattle.ch_history.specs.Entries.{ChanEntry, ChanHistory}
 use Rattle.ch_history.specs.Laws.{occupancy}
 use Rattle.ch_history.specs.Placement.{BelongsTo, IsLegalAt, shard_of}
@@ -19,7 +18,7 @@ use Rattle.ch_history.specs.Pending.{hook_list}
 use Rattle.ch_history.specs.Webhooks.{events_at}
 use Rattle.ch_history.specs.declared.rows.HeldNotice.{HeldNotice}
 use Rattle.ch_history.specs.declared.rows.Subscription.{Subscription}
-use Rattle.ch_history.proofs.Change.{Change, about, change, concerns, ends, opens, same}
+use Rattle.ch_history.proofs.Change.{Change, change, ends, opens, same}
 use Rattle.ch_history.proofs.Legal.{legal_induction}
 pub use Rattle.ch_history.proofs.Held.{marks}
 use Rattle.ch_history.proofs.Held.{held-of, made-of, marks_after, notices_after, notices_of}
