@@ -8,10 +8,7 @@ use Rattle.ch_base.specs.declared.channel.Member.{Member}
 use Rattle.ch_json.specs.Parts.{part}
 use Rattle.ch_history.specs.Limits.{is_user_id}
 use Rattle.ch_protocol.specs.ObjectMembers.{IsObjectText, AreDistinct, HasOne, HasSpelled}
-
--- the longest data, in bytes
-abbrev pub longest_channel_data : ℕ
-longest_channel_data = 2048
+use Rattle.ch_protocol.specs.declared.limits.TheConstants.{LONGEST_CHANNEL_DATA}
 
 -- a number without fraction and exponent: no point and no e stands in it
 abbrev pub is_whole : List ℕ → Bool
@@ -28,7 +25,7 @@ HasId text ms id = (v : Tree) × HasOne text ms (codes "user_id") v × IsIdOf te
 
 -- the data are those of the member: an object in which no name stands twice, with a user id and any info
 pub record IsMemberData (text : List ℕ) (member : Member) : Type 0 where
-  pub short : length text ≤ longest_channel_data
+  pub short : length text ≤ LONGEST_CHANNEL_DATA
   pub members : Members
   pub spelled : IsObjectText text members
   pub distinct : AreDistinct text members

@@ -5,6 +5,8 @@ use Rattle.ch_base.specs.JsonTree.{Span, object, Members}
 use Rattle.ch_history.specs.ChannelName.{begins, is_good_name}
 use Rattle.ch_protocol.specs.ObjectMembers.{IsObjectText, AreDistinct, HasOne, HasString, HasOptional, HasSpelled}
 use Rattle.ch_protocol.specs.UserChannels.{is_user_channel}
+use Rattle.ch_protocol.specs.declared.error_codes.TheConstants.{MALFORMED_MESSAGE, UNKNOWN_EVENT, INVALID_CHANNEL_NAME, MESSAGE_TOO_LONG}
+use Rattle.ch_protocol.specs.declared.limits.TheConstants.{LONGEST_TEXT, LONGEST_EVENT, LONGEST_BODY}
 use Rattle.ch_protocol.specs.declared.client_message.ClientMessage.{ClientMessage}
 use Rattle.ch_protocol.specs.declared.client_message.ClientMessage.TheVariants.{Ping, Pong, Subscribe, Unsubscribe, SignIn, Say}
 
@@ -13,10 +15,6 @@ abbrev pub Verdict : Type 0
 Verdict = Result ClientMessage ℕ
 
 -- ---- events
-
--- the longest text, in bytes
-abbrev pub longest_text : ℕ
-longest_text = 65536
 
 -- the events that clients send
 pub data ClientEvent : Type 0 where
@@ -72,21 +70,14 @@ SayShape name text ms _ = ⊥
 abbrev pub is_subscribable : List ℕ → Bool
 is_subscribable channel = is_good_name channel || is_user_channel channel
 
--- the longest name of a client event, and its longest body as it is spelled
-abbrev pub longest_event : ℕ
-longest_event = 200
-
-abbrev pub longest_body : ℕ
-longest_body = 10240
-
 -- the message of a shape, where its channel's name is good and it is within the lengths
 abbrev pub checked : ClientMessage → Verdict
 checked (Subscribe channel auth channel_data) =
-    if is_subscribable channel then Ok (Subscribe channel auth channel_data) else Err 4312
-checked (Unsubscribe channel) = if is_subscribable channel then Ok (Unsubscribe channel) else Err 4312
+    if is_subscribable channel then Ok (Subscribe channel auth channel_data) else Err INVALID_CHANNEL_NAME
+checked (Unsubscribe channel) = if is_subscribable channel then Ok (Unsubscribe channel) else Err INVALID_CHANNEL_NAME
 checked (Say channel event body) =
-    if not (is_good_name channel) then Err 4312
-    else if nat_lt longest_event (length event) || nat_lt longest_body (length body) then Err 4318
+    if not (is_good_name channel) then Err INVALID_CHANNEL_NAME
+    else if nat_lt LONGEST_EVENT (length event) || nat_lt LONGEST_BODY (length body) then Err MESSAGE_TOO_LONG
     else Ok (Say channel event body)
 checked message = Ok message
 
@@ -96,7 +87,7 @@ checked message = Ok message
 abbrev pub Shaped : (ClientMessage → Type 0) → Verdict → Type 0
 Shaped shape verdict =
     ((m : ClientMessage) × shape m × (verdict ≡ checked m))
-    ⊎ (((m : ClientMessage) → shape m → ⊥) × (verdict ≡ Err 4310))
+    ⊎ (((m : ClientMessage) → shape m → ⊥) × (verdict ≡ Err MALFORMED_MESSAGE))
 
 -- the verdict on the object of an event with this name
 abbrev pub SaysEvent : ClientEvent → List ℕ → List ℕ → Members → Verdict → Type 0
@@ -106,7 +97,7 @@ SaysEvent subscribe name text ms verdict = Shaped (SubscribeShape text ms) verdi
 SaysEvent unsubscribe name text ms verdict = Shaped (UnsubscribeShape text ms) verdict
 SaysEvent sign_in name text ms verdict = Shaped (SignInShape text ms) verdict
 SaysEvent client name text ms verdict = Shaped (SayShape name text ms) verdict
-SaysEvent unknown name text ms verdict = verdict ≡ Err 4311
+SaysEvent unknown name text ms verdict = verdict ≡ Err UNKNOWN_EVENT
 
 -- the text is an object in which no name stands twice, with these members and an event of this name
 pub record IsEventText (text : List ℕ) (ms : Members) (name : List ℕ) : Type 0 where
@@ -118,8 +109,8 @@ pub record IsEventText (text : List ℕ) (ms : Members) (name : List ℕ) : Type
 abbrev pub SaysObject : List ℕ → Verdict → Type 0
 SaysObject text verdict =
     ((ms : Members) × (name : List ℕ) × IsEventText text ms name × SaysEvent (event_of name) name text ms verdict)
-    ⊎ (((ms : Members) (name : List ℕ) → IsEventText text ms name → ⊥) × (verdict ≡ Err 4310))
+    ⊎ (((ms : Members) (name : List ℕ) → IsEventText text ms name → ⊥) × (verdict ≡ Err MALFORMED_MESSAGE))
 
 -- the verdict on a text
 abbrev pub Says : List ℕ → Verdict → Type 0
-Says text verdict = MatchBool (nat_lt longest_text (length text)) (verdict ≡ Err 4318) (SaysObject text verdict)
+Says text verdict = MatchBool (nat_lt LONGEST_TEXT (length text)) (verdict ≡ Err MESSAGE_TOO_LONG) (SaysObject text verdict)

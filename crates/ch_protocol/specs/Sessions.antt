@@ -27,6 +27,8 @@ use Rattle.ch_protocol.specs.declared.ask.Ask.{Ask}
 use Rattle.ch_protocol.specs.declared.ask.Ask.TheVariants.{Chan, User}
 use Rattle.ch_protocol.specs.declared.ask.Made.{Made}
 use Rattle.ch_protocol.specs.declared.ask.Made.TheVariants as made
+use Rattle.ch_protocol.specs.declared.error_codes.TheConstants.{UNAUTHORIZED, RECONNECT, RATE_LIMIT_REACHED, ALREADY_SUBSCRIBED, NOT_SUBSCRIBED, INVALID_SIGNATURE, INVALID_CHANNEL_DATA, CLIENT_EVENT_REFUSED, TOO_MANY_SUBSCRIPTIONS, CHANNEL_FULL, INVALID_USER_DATA, ALREADY_SIGNED_IN, OUT_OF_MEMORY}
+use Rattle.ch_protocol.specs.declared.limits.TheConstants.{MAX_SUBSCRIPTIONS}
 use Rattle.ch_protocol.specs.declared.heard.Heard.{Heard}
 use Rattle.ch_protocol.specs.declared.heard.Heard.TheVariants as heard
 use Rattle.ch_protocol.specs.declared.heard.Settled.{Settled}
@@ -63,10 +65,6 @@ is_given (Some given) auth = bytes_eq given auth
 
 -- ---- messages
 
--- the most subscriptions of a socket
-abbrev pub max_subscriptions : ℕ
-max_subscriptions = 1024
-
 -- one call on the channel's shard
 abbrev pub ask_on : Session → List ℕ → ChanCall → Heard
 ask_on s channel call = heard.Ask (Chan (shard_of channel s.config.chan_shards) call ∷ [])
@@ -74,15 +72,15 @@ ask_on s channel call = heard.Ask (Chan (shard_of channel s.config.chan_shards) 
 -- a user's own channel is for the sockets that are signed in as this user
 abbrev pub subscribes_own : Session → List ℕ → List ℕ → Heard
 subscribes_own s channel id =
-    if is_given (user_of s.asks) id then heard.Reply (Succeeded channel) else heard.Refuse 4315
+    if is_given (user_of s.asks) id then heard.Reply (Succeeded channel) else heard.Refuse INVALID_SIGNATURE
 
 -- any other channel
 abbrev pub subscribes_to : Session → List ℕ → Option (List ℕ) → Option (List ℕ) → Option Member → Heard
 subscribes_to s channel auth channel_data member =
-    if nat_le max_subscriptions (count s.asks) then heard.Refuse 4319
-    else if is_presence channel && is_none member then heard.Refuse 4316
+    if nat_le MAX_SUBSCRIPTIONS (count s.asks) then heard.Refuse TOO_MANY_SUBSCRIPTIONS
+    else if is_presence channel && is_none member then heard.Refuse INVALID_CHANNEL_DATA
     else if needs_auth (kind_of channel) && not (is_given auth (channel_auth s.config s.start s.number channel channel_data))
-    then heard.Refuse 4315
+    then heard.Refuse INVALID_SIGNATURE
     else ask_on s channel (chan.Join s.number channel member s.now)
 
 abbrev pub subscribes : Session → List ℕ → Option (List ℕ) → Option (List ℕ) → Option Member → Option (List ℕ) → Heard
@@ -95,8 +93,8 @@ unsubscribes s channel =
 
 abbrev pub says : Session → List ℕ → List ℕ → List ℕ → Heard
 says s channel event body =
-    if not (may_say (kind_of channel) && s.config.client_events) then heard.Refuse 4317
-    else if not (rate_allows (accepted s.asks) s.now) then heard.Refuse 4301
+    if not (may_say (kind_of channel) && s.config.client_events) then heard.Refuse CLIENT_EVENT_REFUSED
+    else if not (rate_allows (accepted s.asks) s.now) then heard.Refuse RATE_LIMIT_REACHED
     else ask_on s channel (chan.Say s.number channel event body s.now)
 
 abbrev pub sign_in_ask : Session → List ℕ → Ask
@@ -107,15 +105,15 @@ watch_ask s id = User (shard_of id s.config.user_shards) (user.Watch s.number id
 
 -- the sign-in, and a watch for each user of the watchlist
 abbrev pub signs_in_as : Session → List ℕ → List ℕ → Option UserData → Heard
-signs_in_as s auth user_data None = heard.Refuse 4321
+signs_in_as s auth user_data None = heard.Refuse INVALID_USER_DATA
 signs_in_as s auth user_data (Some u) =
     if bytes_eq auth (user_auth s.config s.start s.number user_data)
     then heard.Ask (sign_in_ask s u.id ∷ map (watch_ask s) u.watchlist)
-    else heard.End 4009
+    else heard.End UNAUTHORIZED
 
 abbrev pub signs_in : Session → List ℕ → List ℕ → Option UserData → Heard
 signs_in s auth user_data u =
-    if is_some (user_of s.asks) then heard.Refuse 4322 else signs_in_as s auth user_data u
+    if is_some (user_of s.asks) then heard.Refuse ALREADY_SIGNED_IN else signs_in_as s auth user_data u
 
 -- by the verdict on a text, and who joins or signs in by it
 abbrev pub judged_as : Session → Option Member → Option UserData → Verdict → Heard
@@ -135,9 +133,9 @@ judged s r = judged_as s r.member r.user r.verdict
 -- ---- answers
 
 abbrev pub chan_outcome : ChanAnswer → Settled
-chan_outcome Already = settled.Refuse 4313
-chan_outcome Crowded = settled.Refuse 4320
-chan_outcome NotOn = settled.Refuse 4314
+chan_outcome Already = settled.Refuse ALREADY_SUBSCRIBED
+chan_outcome Crowded = settled.Refuse CHANNEL_FULL
+chan_outcome NotOn = settled.Refuse NOT_SUBSCRIBED
 chan_outcome _ = settled.Nothing
 
 -- the first answer to a sign-in tells the user's data, as they were sent
@@ -146,8 +144,8 @@ user_outcome user_data zero SignedInAnswer = settled.Reply (SignedIn user_data)
 user_outcome user_data place answer = settled.Nothing
 
 abbrev pub memory_outcome : ℕ → Settled
-memory_outcome zero = settled.Refuse 4329
-memory_outcome place = settled.End 4200
+memory_outcome zero = settled.Refuse OUT_OF_MEMORY
+memory_outcome place = settled.End RECONNECT
 
 -- what came of the ask at a place, counted from 0, means for the socket; user_data: those of the message that is a sign-in
 abbrev pub outcome : List ℕ → ℕ → Made → Settled

@@ -7,6 +7,7 @@ use Rattle.std.specs.Str.Lossy.{utf8_lossy}
 use Rattle.form_urlencoded.specs.Form.{raw_pairs, decode}
 use Rattle.ch_history.specs.ChannelName.{begins}
 use Rattle.ch_history.specs.OpenRows.{is_empty}
+use Rattle.ch_protocol.specs.declared.error_codes.TheConstants.{UNKNOWN_APP, UNKNOWN_PATH, INVALID_VERSION, UNSUPPORTED_VERSION, NO_VERSION}
 
 -- ---- the two parts of a target
 
@@ -52,17 +53,17 @@ version_in query = first_value (codes "protocol") (raw_pairs query)
 
 -- version 7 is served
 abbrev pub version_refusal : Option (List ℕ) → Option ℕ
-version_refusal None = Some 4008
+version_refusal None = Some NO_VERSION
 version_refusal (Some version) =
-    if is_empty version || not (list_all is_ascii_digit version) then Some 4006
+    if is_empty version || not (list_all is_ascii_digit version) then Some INVALID_VERSION
     else if bytes_eq version (codes "7") then None
-    else Some 4007
+    else Some UNSUPPORTED_VERSION
 
 -- ---- targets
 
 -- the code that refuses the target, where the app has this key; none where it opens a connection
 abbrev pub target_refusal : List ℕ → List ℕ → Option ℕ
 target_refusal key target =
-    if not (is_app_path (path_of target)) then Some 4005
-    else if not (bytes_eq (app_in (path_of target)) key) then Some 4001
+    if not (is_app_path (path_of target)) then Some UNKNOWN_PATH
+    else if not (bytes_eq (app_in (path_of target)) key) then Some UNKNOWN_APP
     else version_refusal (version_in (query_of target))

@@ -6,10 +6,7 @@ use Rattle.ch_json.specs.Parts.{items_of}
 use Rattle.ch_history.specs.Limits.{is_user_id}
 use Rattle.ch_protocol.specs.ObjectMembers.{IsObjectText, AreDistinct, HasOne, HasString, IsLeftOut, IsStringOf}
 use Rattle.ch_protocol.specs.declared.client_message.UserData.{UserData}
-
--- the most ids of a watchlist, repeated ones among them
-abbrev pub longest_watchlist : ℕ
-longest_watchlist = 100
+use Rattle.ch_protocol.specs.declared.limits.TheConstants.{LONGEST_WATCHLIST}
 
 -- the texts of a list, each at its first place alone
 abbrev pub first_places : List (List ℕ) → List (List ℕ)
@@ -24,7 +21,7 @@ AreIds text _ _ = ⊥
 
 -- an array of at most 100 good user ids
 pub record IsIdList (text : List ℕ) (vs : Items) (watchlist : List (List ℕ)) : Type 0 where
-  pub few : length (items_of vs) ≤ longest_watchlist
+  pub few : length (items_of vs) ≤ LONGEST_WATCHLIST
   pub ids : List (List ℕ)
   pub are : AreIds text (items_of vs) ids
   pub once : watchlist ≡ first_places ids

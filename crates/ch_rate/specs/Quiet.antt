@@ -1,5 +1,6 @@
 -- How long a connection may be silent: it is pinged, and closed where it doesn't answer.
 use Rattle.std.specs.Prelude.{ℕ, ◌+◌, nat_le, Option, None, Some, if◌then◌else◌}
+use Rattle.ch_rate.specs.declared.limits.TheConstants.{SILENCE, PATIENCE}
 use Rattle.ch_rate.specs.declared.activity.Due.{Due}
 use Rattle.ch_rate.specs.declared.activity.Due.TheVariants.{Nothing, Ping, Expired}
 
@@ -12,11 +13,11 @@ pub record Quiet : Type 0 where
 abbrev pub quiet_from : ℕ → Quiet
 quiet_from now = record { heard = now; pinged = None }
 
--- what is due now: with no ping out, a ping from 120,000 after the last heard moment on; with one out since a moment,
--- the end from 30,000 after that moment on
+-- what is due now: with no ping out, a ping where the silence is long enough; with one out since a moment, the end where
+-- the patience is over
 abbrev pub due_by : ℕ → Option ℕ → ℕ → Due
-due_by heard None now = if nat_le (heard + 120000) now then Ping else Nothing
-due_by heard (Some since) now = if nat_le (since + 30000) now then Expired else Nothing
+due_by heard None now = if nat_le (heard + SILENCE) now then Ping else Nothing
+due_by heard (Some since) now = if nat_le (since + PATIENCE) now then Expired else Nothing
 
 -- what a connection of this quiet is due now
 abbrev pub due_of : Quiet → ℕ → Due

@@ -1,12 +1,7 @@
 ghost use Rattle.std.specs.Prelude.{◌≡◌, ◌≤◌, ◌^◌};
 
+use crate::limits::{PATIENCE, SILENCE};
 use std::marker::Model;
-
-/// A ping is due after so many milliseconds of silence.
-const SILENCE: u64 = 120_000;
-
-/// A connection has so many milliseconds for its answer to a ping.
-const PATIENCE: u64 = 30_000;
 
 /// What a silent connection is due.
 #[derive(Clone, Copy, Debug, PartialEq, Eq)]
@@ -59,9 +54,9 @@ impl Activity {
 
     /// What the connection is due at the moment `now`.
     ///
-    /// It is a ping exactly where none is out and `now` is at least the last heard moment plus 120,000; the
+    /// It is a ping exactly where none is out and `now` is at least the last heard moment plus [`SILENCE`]; the
     /// ping is then out since `now`. It is `Expired` exactly where a ping is out and `now` is at least the
-    /// moment since when plus 30,000.
+    /// moment since when plus [`PATIENCE`].
     pub fn due(&mut self, now: u64) -> Due
         requires { now ≤ 10 ^ 15 }
         ensures due { result ≡ due_of self.old now }

@@ -7,8 +7,10 @@
 
 mod activity;
 mod examples;
+mod limits;
 mod rate;
 
 pub use activity::{Activity, Due};
 pub use examples::examples_hold;
+pub use limits::{LIMIT, PATIENCE, SILENCE, WINDOW};
 pub use rate::Rate;

@@ -1,12 +1,7 @@
 ghost use Rattle.std.specs.Prelude.{◌≡◌, ◌≤◌, ◌^◌, ◌∷◌, ◌++◌, [], ℕ, List};
 
+use crate::limits::{LIMIT, WINDOW};
 use std::marker::Model;
-
-/// At most so many client events are accepted in a window.
-const LIMIT: usize = 10;
-
-/// The window's length in milliseconds.
-const WINDOW: u64 = 1_000;
 
 /// How many client events a connection may send: ten in a second (Pusher Channels protocol, client events).
 ///
@@ -21,12 +16,13 @@ pub struct Rate {
 
 impl Model for Rate {
     ghost use Rattle.std.specs.Prelude.{ℕ, ◌-◌, ◌≤◌, List, drop};
+    ghost use Rattle.ch_rate.specs.declared.limits.TheConstants.{LIMIT};
 
     ghost Value = { List ℕ };
 
-    ghost view = { λ r. drop (10 - r.kept) r.moments };
+    ghost view = { λ r. drop (LIMIT - r.kept) r.moments };
 
-    ghost invariant = { λ r. r.kept ≤ 10 };
+    ghost invariant = { λ r. r.kept ≤ LIMIT };
 }
 
 impl Rate {
