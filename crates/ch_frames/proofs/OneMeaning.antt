@@ -6,12 +6,13 @@ use Rattle.ch_base.specs.declared.channel.Member.{Member}
 use Rattle.ch_json.specs.Parts.{part, items_of}
 use Rattle.ch_json.proofs.OneText.{one_text}
 use Rattle.ch_protocol.specs.ObjectMembers.{HasOne, HasString, IsLeftOut, HasOptional, HasSpelled}
-use Rattle.ch_protocol.specs.ClientMessages.{Verdict, ClientEvent, ping, pong, subscribe, unsubscribe, sign_in, client, unknown, event_of, SubscribeShape, UnsubscribeShape, SignInShape, SayShape, checked, Shaped, SaysEvent, SaysObject, Says, longest_text}
+use Rattle.ch_protocol.specs.ClientMessages.{Verdict, ClientEvent, ping, pong, subscribe, unsubscribe, sign_in, client, unknown, event_of, SubscribeShape, UnsubscribeShape, SignInShape, SayShape, checked, Shaped, SaysEvent, SaysObject, Says}
 use Rattle.ch_protocol.specs.ChannelData.{IsIdOf, HasId, IsMemberData}
 use Rattle.ch_protocol.specs.UserDataText.{first_places, AreIds, HasWatchlist, IsUserData}
 use Rattle.ch_protocol.specs.declared.client_message.ClientMessage.{ClientMessage}
 use Rattle.ch_protocol.specs.declared.client_message.ClientMessage.TheVariants.{Ping, Pong, Subscribe, Unsubscribe, SignIn, Say}
 use Rattle.ch_protocol.specs.declared.client_message.UserData.{UserData}
+use Rattle.ch_protocol.specs.declared.limits.TheConstants.{LONGEST_TEXT}
 use Rattle.ch_members.proofs.MembersOfName.{one_value, none_or_one}
 use Rattle.ch_frames.proofs.ShapesOf.{same_data}
 use Rattle.ch_members.proofs.SpelledValues.{same_object}
@@ -111,7 +112,7 @@ object_once text a b (inr (none, e)) (inl (ms, name, ev, k)) = absurd (none ms n
 object_once text a b (inr (none, e)) (inr (none2, f)) = e ∙ sym f
 
 pub one_verdict : (text : List ℕ) (a b : Verdict) → Says text a → Says text b → a ≡ b
-one_verdict text a b h k = test (nat_lt longest_text (length text)) h k
+one_verdict text a b h k = test (nat_lt LONGEST_TEXT (length text)) h k
   where
     test : (long : Bool) → MatchBool long (a ≡ Err 4318) (SaysObject text a) → MatchBool long (b ≡ Err 4318) (SaysObject text b) → a ≡ b
     test true e f = e ∙ sym f

@@ -8,6 +8,7 @@ use Rattle.ch_protocol.specs.ClientMessages.{is_subscribable}
 use Rattle.ch_protocol.specs.declared.client_message.ClientMessage.{ClientMessage}
 use Rattle.ch_protocol.specs.declared.client_message.ClientMessage.TheVariants.{Subscribe, Unsubscribe, Say}
 use Rattle.ch_protocol.specs.declared.client_message.UserData.{UserData}
+use Rattle.ch_protocol.specs.declared.error_codes.TheConstants.{INVALID_CHANNEL_NAME, MALFORMED_MESSAGE, MESSAGE_TOO_LONG, UNKNOWN_EVENT}
 use Rattle.ch_frames.specs.declared.refused.Refused.{Refused}
 use Rattle.ch_frames.specs.declared.refused.Refused.TheVariants.{Code, Memory}
 
@@ -20,7 +21,7 @@ IsGoodMessage _ = Unit {0}
 
 -- malformed, an unknown event, an invalid channel name, or over a limit
 abbrev pub IsCode : ℕ → Type 0
-IsCode c = (c ≡ 4310) ⊎ (c ≡ 4311) ⊎ (c ≡ 4312) ⊎ (c ≡ 4318)
+IsCode c = (c ≡ MALFORMED_MESSAGE) ⊎ (c ≡ UNKNOWN_EVENT) ⊎ (c ≡ INVALID_CHANNEL_NAME) ⊎ (c ≡ MESSAGE_TOO_LONG)
 
 abbrev pub IsRefusal : Refused → Type 0
 IsRefusal (Code c) = IsCode c

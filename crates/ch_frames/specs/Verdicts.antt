@@ -1,9 +1,11 @@
 -- What `parse` answers, as a verdict.
 use Rattle.std.specs.Prelude.{ℕ, List, length, not, ◌||◌, nat_lt, Option, Some, None, Result, Ok, Err, if◌then◌else◌}
 use Rattle.ch_history.specs.ChannelName.{is_good_name}
-use Rattle.ch_protocol.specs.ClientMessages.{Verdict, ClientEvent, checked, is_subscribable, longest_event, longest_body}
+use Rattle.ch_protocol.specs.ClientMessages.{Verdict, ClientEvent, checked, is_subscribable}
 use Rattle.ch_protocol.specs.ClientMessages as event
 use Rattle.ch_protocol.specs.declared.client_message.ClientMessage.{ClientMessage}
+use Rattle.ch_protocol.specs.declared.error_codes.TheConstants.{INVALID_CHANNEL_NAME, MALFORMED_MESSAGE, MESSAGE_TOO_LONG}
+use Rattle.ch_protocol.specs.declared.limits.TheConstants.{LONGEST_EVENT, LONGEST_BODY}
 use Rattle.ch_frames.specs.declared.refused.Refused.{Refused}
 use Rattle.ch_frames.specs.declared.refused.Refused.TheVariants.{Code, Memory}
 use Rattle.ch_frames.specs.declared.client_event.Event.{Event}
@@ -22,7 +24,7 @@ answer_of (Err c) = Err (Code c)
 
 -- the answer where this is the message of the shape, or there is none
 abbrev pub judged : Option ClientMessage → Result ClientMessage Refused
-judged None = Err (Code 4310)
+judged None = Err (Code MALFORMED_MESSAGE)
 judged (Some m) = answer_of (checked m)
 
 -- a message's verdict, where this is the code of its fault, or none
@@ -32,13 +34,13 @@ verdict_of m (Some c) = Err c
 
 -- the code of the fault of a channel's name to which sockets can't subscribe
 abbrev pub subscribable_fault : List ℕ → Option ℕ
-subscribable_fault channel = if is_subscribable channel then None else Some 4312
+subscribable_fault channel = if is_subscribable channel then None else Some INVALID_CHANNEL_NAME
 
 -- the code of the first fault of a client event
 abbrev pub say_fault : List ℕ → List ℕ → List ℕ → Option ℕ
 say_fault channel event body =
-    if not (is_good_name channel) then Some 4312
-    else if nat_lt longest_event (length event) || nat_lt longest_body (length body) then Some 4318
+    if not (is_good_name channel) then Some INVALID_CHANNEL_NAME
+    else if nat_lt LONGEST_EVENT (length event) || nat_lt LONGEST_BODY (length body) then Some MESSAGE_TOO_LONG
     else None
 
 -- the event that an `Event` stands for

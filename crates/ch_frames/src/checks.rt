@@ -7,19 +7,15 @@ ghost use Rattle.ch_frames.specs.Verdicts.{verdict_of, say_fault, subscribable_f
 
 use ch_base::Text;
 use ch_names::{kind, user_id};
-use ch_protocol::ClientMessage;
-
-/// The longest name of a client event, in bytes (Pusher Channels, "Client events").
-const LONGEST_EVENT: usize = 200;
-
-/// The longest body of a client event as it is spelled, in bytes (Pusher Channels, "Client events").
-const LONGEST_BODY: usize = 10240;
+use ch_protocol::{
+    ClientMessage, INVALID_CHANNEL_NAME, LONGEST_BODY, LONGEST_EVENT, MESSAGE_TOO_LONG,
+};
 
 /// What stands before the user's id in the name of a user's own channel.
 const USER_PREFIX: &str = "#server-to-user-";
 
-/// The code of a message's first fault: 4312 where its channel's name isn't good, and 4318 where its
-/// event or its body is too long.
+/// The code of a message's first fault: that its channel's name isn't good, or that its event or its body
+/// is too long.
 pub fn fault_of(message: &ClientMessage) -> Option<u16>
     ensures { verdict_of message.now result ≡ checked message.now }
 {
@@ -41,7 +37,7 @@ fn subscribable_fault(channel: &Text) -> Option<u16>
     if is_subscribable(channel.as_str()) {
         None
     } else {
-        Some(4312)
+        Some(INVALID_CHANNEL_NAME)
     }
 }
 
@@ -49,9 +45,9 @@ fn say_fault(channel: &Text, event: &Text, body: &Text) -> Option<u16>
     ensures { result ≡ say_fault channel.now event.now body.now }
 {
     if !is_good_name(channel.as_str()) {
-        Some(4312)
+        Some(INVALID_CHANNEL_NAME)
     } else if event.len() > LONGEST_EVENT || body.len() > LONGEST_BODY {
-        Some(4318)
+        Some(MESSAGE_TOO_LONG)
     } else {
         None
     }

@@ -12,13 +12,11 @@ use crate::refused::Unread;
 use ch_base::{Member, Memory, Text};
 use ch_json::{Doc, Form, Found, Node, unescape};
 use ch_members::{object_of, spelled_member};
+use ch_protocol::LONGEST_CHANNEL_DATA;
 use std::alloc::Global;
 
-/// The longest data, in bytes.
-const LONGEST_CHANNEL_DATA: usize = 2048;
-
-/// The member whose data these are: a JSON object of at most 2,048 bytes in which no name stands
-/// twice, with a good user id, a string or a whole number as it is spelled, and any info (Pusher
+/// The member whose data these are: a JSON object of at most `LONGEST_CHANNEL_DATA` bytes in which
+/// no name stands twice, with a good user id, a string or a whole number as it is spelled, and any info (Pusher
 /// Channels documentation, "Authorizing users", presence channels).
 pub fn member_of(alloc: Global, channel_data: &str) -> Result<Member, Unread>
     ensures tells { Told (TellsMember channel_data.now) result }
@@ -34,7 +32,7 @@ pub fn member_of(alloc: Global, channel_data: &str) -> Result<Member, Unread>
 }
 
 fn member_in(alloc: Global, text: &str, doc: &Doc) -> Result<Member, Unread>
-    requires short { length text.now ≤ 2048 }
+    requires short { length text.now ≤ LONGEST_CHANNEL_DATA }
     requires object { IsObjectDoc text.now doc.now }
     ensures { Told (TellsMember text.now) result }
 {

@@ -14,26 +14,26 @@ use crate::shapes::{say, sign_in, subscribe, unsubscribe};
 use ch_base::Text;
 use ch_json::{Doc, Node};
 use ch_members::{object_of, string_member};
-use ch_protocol::ClientMessage;
+use ch_protocol::{
+    ClientMessage, LONGEST_TEXT, MALFORMED_MESSAGE, MESSAGE_TOO_LONG, UNKNOWN_EVENT,
+};
 use std::alloc::Global;
-
-/// The longest text, in bytes.
-const LONGEST_TEXT: usize = 65536;
 
 /// The message of a client's text, or the code of its first fault (Pusher Channels protocol, "Events
 /// that clients send" and "Client events").
 ///
-/// The order of refusals: longer than 65,536 bytes is 4318; no JSON object in which no name stands
-/// twice, or without a string as its `event`, is 4310; an event that clients don't send is 4311; not
-/// the shape of the event is 4310; an invalid channel name is 4312; a client event with a name above
-/// 200 bytes or `data` above 10,240 bytes is 4318.
+/// The order of refusals: longer than `LONGEST_TEXT` is `MESSAGE_TOO_LONG`; no JSON object in which no name
+/// stands twice, or without a string as its `event`, is `MALFORMED_MESSAGE`; an event that clients don't
+/// send is `UNKNOWN_EVENT`; not the shape of the event is `MALFORMED_MESSAGE`; a channel that can't be
+/// subscribed to is `INVALID_CHANNEL_NAME`; a client event with a name above `LONGEST_EVENT` or `data` above
+/// `LONGEST_BODY` is `MESSAGE_TOO_LONG`.
 pub fn parse(alloc: Global, text: &str) -> Result<ClientMessage, Refused>
     ensures says { Tells (Says text.now) result }
     ensures code { IfErr result IsRefusal }
     ensures good { IfOk result IsGoodMessage }
 {
     if text.len() > LONGEST_TEXT {
-        return Err(Refused::Code(4318));
+        return Err(Refused::Code(MESSAGE_TOO_LONG));
     }
     said(alloc, text)
 }
@@ -42,7 +42,7 @@ fn said(alloc: Global, text: &str) -> Result<ClientMessage, Refused>
     ensures { Tells (SaysObject text.now) result }
 {
     match object_of(alloc, text)? {
-        None => Err(Refused::Code(4310)),
+        None => Err(Refused::Code(MALFORMED_MESSAGE)),
         Some(doc) => said_by_object(alloc, text, &doc),
     }
 }
@@ -53,7 +53,7 @@ fn said_by_object(alloc: Global, text: &str, doc: &Doc) -> Result<ClientMessage,
 {
     let top = doc.top();
     match string_member(alloc, text, doc, top, "event")? {
-        None => Err(Refused::Code(4310)),
+        None => Err(Refused::Code(MALFORMED_MESSAGE)),
         Some(name) => said_by_event(alloc, text, doc, top, name),
     }
 }
@@ -76,7 +76,7 @@ fn said_by_event(
         Event::Unsubscribe => judged(unsubscribe(alloc, text, doc, node)?),
         Event::SignIn => judged(sign_in(alloc, text, doc, node)?),
         Event::Client => judged(say(alloc, text, doc, node, name)?),
-        Event::Unknown => Err(Refused::Code(4311)),
+        Event::Unknown => Err(Refused::Code(UNKNOWN_EVENT)),
     }
 }
 
@@ -85,7 +85,7 @@ fn judged(shape: Option<ClientMessage>) -> Result<ClientMessage, Refused>
     ensures { result ≡ judged shape }
 {
     let Some(message) = shape else {
-        return Err(Refused::Code(4310));
+        return Err(Refused::Code(MALFORMED_MESSAGE));
     };
     match fault_of(&message) {
         Some(code) => Err(Refused::Code(code)),

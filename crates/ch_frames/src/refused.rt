@@ -4,8 +4,8 @@ use ch_base::Memory;
 /// Why a client's text is refused.
 #[derive(Clone, Copy, Debug, PartialEq, Eq)]
 pub enum Refused {
-    /// The code of its first fault: 4310 malformed, 4311 an unknown event, 4312 an invalid channel
-    /// name, 4318 over a limit.
+    /// The code of its first fault: `MALFORMED_MESSAGE`, `UNKNOWN_EVENT`, `INVALID_CHANNEL_NAME` or
+    /// `MESSAGE_TOO_LONG` of `ch_protocol`.
     Code(u16),
     /// Want of memory.
     Memory,

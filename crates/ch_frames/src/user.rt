@@ -13,15 +13,11 @@ use crate::refused::Unread;
 use ch_base::{Memory, Text, TextList};
 use ch_json::{Doc, Form, Found, Node};
 use ch_members::{Array, first_places, object_of, string_member, strings_of};
-use ch_protocol::UserData;
+use ch_protocol::{LONGEST_WATCHLIST, UserData};
 use std::alloc::Global;
 
-/// The most ids of a watchlist, repeated ones among them (Pusher Channels documentation, "Watchlist
-/// events").
-const LONGEST_WATCHLIST: u64 = 100;
-
 /// The user whose data these are: a JSON object in which no name stands twice, with a good user id as
-/// its `id`, and a `watchlist` of at most 100 good user ids, null or none (Pusher Channels
+/// its `id`, and a `watchlist` of at most `LONGEST_WATCHLIST` good user ids, null or none (Pusher Channels
 /// documentation, "User authentication" and "Watchlist events"). A repeated id counts at its first
 /// place.
 pub fn user_of(alloc: Global, user_data: &str) -> Result<UserData, Unread>

@@ -15,6 +15,7 @@ use Rattle.ch_protocol.specs.Settling.{user_of}
 use Rattle.ch_protocol.specs.UserChannels.{is_user_channel}
 use Rattle.ch_protocol.specs.declared.client_message.ClientMessage.{ClientMessage}
 use Rattle.ch_protocol.specs.declared.heard.Heard.TheVariants as heard
+use Rattle.ch_protocol.specs.declared.error_codes.TheConstants.{INVALID_SIGNATURE}
 use Rattle.ch_session.specs.declared.judged.Judged.{Judged}
 use Rattle.ch_session.specs.Judging.{Hears, IsReady, user_data_of}
 use Rattle.ch_session.specs.Kept.{Kept}
@@ -30,10 +31,10 @@ good_if_no_user name is nobody = first (is_good_name name) (is_user_channel name
 
 pub own_by : (s : Session) (channel : List ℕ) (auth channel_data : Option (List ℕ)) (member : Option Member) (owner : Option (List ℕ)) (owns : Bool)
     → Some owns ≡ option_map (is_given (user_of s.asks)) owner
-    → (if owns then heard.Reply (Succeeded channel) else heard.Refuse 4315) ≡ subscribes s channel auth channel_data member owner
+    → (if owns then heard.Reply (Succeeded channel) else heard.Refuse INVALID_SIGNATURE) ≡ subscribes s channel auth channel_data member owner
 own_by s channel auth channel_data member None owns is = absurd (some_none owns is)
 own_by s channel auth channel_data member (Some id) owns is =
-    ap (λ b. if b then heard.Reply (Succeeded channel) else heard.Refuse 4315) (same_some owns (is_given (user_of s.asks) id) is)
+    ap (λ b. if b then heard.Reply (Succeeded channel) else heard.Refuse INVALID_SIGNATURE) (same_some owns (is_given (user_of s.asks) id) is)
 
 pub unsubscribe_by : (s : Session) (channel : List ℕ) (r : Result Judged Memory) → is_user_channel channel ≡ false
     → IfOk r (λ j. j.heard ≡ ask_on s channel (Leave s.number channel s.now)) → IfOk r (λ j. j.heard ≡ unsubscribes s channel)

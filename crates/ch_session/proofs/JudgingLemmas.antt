@@ -19,6 +19,7 @@ use Rattle.ch_protocol.specs.declared.client_message.UserData.{UserData}
 use Rattle.ch_protocol.specs.declared.ask.Ask.{Ask}
 use Rattle.ch_protocol.specs.declared.ask.Ask.TheVariants.{Chan}
 use Rattle.ch_protocol.specs.declared.heard.Heard.TheVariants as heard
+use Rattle.ch_protocol.specs.declared.limits.TheConstants.{MAX_SUBSCRIPTIONS}
 use Rattle.ch_session.specs.declared.judged.Judged.{Judged}
 use Rattle.ch_session.specs.declared.waiting.Waiting.{Waiting}
 use Rattle.ch_session.specs.declared.waiting.Waiting.TheVariants.{Nothing, Join, Call, SignIn}
@@ -47,7 +48,7 @@ member_of_kind false channel (Some m) kind there joins = let no : true ≡ false
 -- a Join is
 pub join_ready : (s : Kept) (config : Config) (shard now : ℕ) (channel : List ℕ) (member : Option Member) (r : Result Judged Memory)
     → IsOver s config → IsSocket s.number → IsMoment now → IsTrue (is_good_name channel) → IsJoiner channel member
-    → (is_presence channel && is_none member) ≡ false → s.told.subscriptions < 1024
+    → (is_presence channel && is_none member) ≡ false → s.told.subscriptions < MAX_SUBSCRIPTIONS
     → shard ≡ shard_of channel s.chans → shard < s.chans
     → IfOk r (λ j. j ≡ record { heard = heard.Ask (Chan shard (chan.Join s.number channel member now) ∷ []); waits = Join shard })
     → IfOk r (IsReady s config [])
@@ -72,7 +73,7 @@ join_ready s config shard now channel member (Ok j) over socket moment good join
 -- any other call on a channel shard is
 pub call_ready : (s : Kept) (config : Config) (shard : ℕ) (call : ChanCall) (r : Result Judged Memory)
     → IsOver s config → IsWellFormed call → BelongsTo (shard, s.chans) call → IsCallOn shard (Chan shard call)
-    → s.told.subscriptions ≤ 1024 → shard < s.chans
+    → s.told.subscriptions ≤ MAX_SUBSCRIPTIONS → shard < s.chans
     → IfOk r (λ j. j ≡ record { heard = heard.Ask (Chan shard call ∷ []); waits = Call shard })
     → IfOk r (IsReady s config [])
 call_ready s config shard call (Err e) over formed belongs called few below made = tt
@@ -88,7 +89,7 @@ call_ready s config shard call (Ok j) over formed belongs called few below made 
     })
 
 -- a refusal is
-pub refusal_ready : (s : Kept) (config : Config) (code : ℕ) (j : Judged) → s.told.subscriptions ≤ 1024
+pub refusal_ready : (s : Kept) (config : Config) (code : ℕ) (j : Judged) → s.told.subscriptions ≤ MAX_SUBSCRIPTIONS
     → j ≡ record { heard = heard.Refuse code; waits = Nothing } → IsReady s config [] j
 refusal_ready s config code j few made =
     subst (IsReady s config []) (sym made) (record { awaits = refl; holds = tt; sound = All-nil (IsSoundAsk config); ends = tt; fit = few })
@@ -121,7 +122,7 @@ fit_watches chans shards most (id ∷ ids) some within =
 -- a sign-in with its watches is
 pub sign_in_ready : (s : Kept) (config : Config) (now : ℕ) (id user_data : List ℕ) (watchlist : List (List ℕ)) (r : Result Judged Memory)
     → IsOver s config → 1 ≤ config.user_shards → IsSocket s.number → IsMoment now → IsTrue (is_user_id id) → All (λ x. IsTrue (is_user_id x)) watchlist
-    → s.told.subscriptions ≤ 1024
+    → s.told.subscriptions ≤ MAX_SUBSCRIPTIONS
     → IfOk r (λ j. j ≡ record {
       heard = heard.Ask (sign_in_by s.number now config.user_shards id ∷ map (watch_by s.number now config.user_shards) watchlist);
       waits = SignIn (shard_of id config.user_shards) id user_data (map (λ x. shard_of x config.user_shards) watchlist);

@@ -26,6 +26,7 @@ use Rattle.ch_session.specs.declared.waiting.Waiting.TheVariants.{Nothing, Join,
 use Rattle.ch_session.specs.Kept.{Kept, IsSession, IsSettled, IsFit, IsSound, left_after}
 use Rattle.ch_history.specs.AnswerKinds.{IsUserAnswerTo}
 use Rattle.ch_protocol.specs.Asks.{ComesOf}
+use Rattle.ch_protocol.specs.declared.limits.TheConstants.{MAX_SUBSCRIPTIONS}
 use Rattle.ch_session.specs.Told.{Told, Tells, accepted_with, used_with}
 use Rattle.ch_session.specs.Waits.{IsJoinOn, IsCallOn, IsSignInOn, IsWatchOn, AreWatchesOn, AwaitsNext, Awaits, HoldsData, chan_shard_of, waits_on}
 use Rattle.ch_session.proofs.Telling.{is_at, at_chan, at_user, tells_more, or_none}
@@ -70,7 +71,7 @@ waits_alone (Watches (k ∷ ks)) place ask asks a awaits comes =
     let on = watches_on k ask awaits.1.0 in absurd (subst (λ x. ComesOf x (made.Chan a)) on.3 comes)
 
 room_for_join : (told : Told) (chans : ℕ) (waits : Waiting) (place : ℕ) (ask : Ask) (asks : List Ask) → AwaitsNext waits place ask asks
-    → ComesOf ask (made.Chan Joined) → IsFit told chans waits → told.subscriptions < 1024
+    → ComesOf ask (made.Chan Joined) → IsFit told chans waits → told.subscriptions < MAX_SUBSCRIPTIONS
 room_for_join told chans Nothing place ask asks awaits comes fit = absurd awaits
 room_for_join told chans (Join k) place ask asks awaits comes fit = fit.0
 room_for_join told chans (Call k) place ask asks awaits comes fit = absurd (not_joined k ask awaits.1 comes)
@@ -81,11 +82,11 @@ room_for_join told chans (Watches (k ∷ ks)) place ask asks awaits comes fit =
     let on = watches_on k ask awaits.1.0 in absurd (subst (λ x. ComesOf x (made.Chan Joined)) on.3 comes)
 
 pub room_for : (told : Told) (chans : ℕ) (waits : Waiting) (place : ℕ) (ask : Ask) (asks : List Ask) (a : ChanAnswer) → AwaitsNext waits place ask asks
-    → ComesOf ask (made.Chan a) → IsFit told chans waits → a ≡ Joined → told.subscriptions < 1024
+    → ComesOf ask (made.Chan a) → IsFit told chans waits → a ≡ Joined → told.subscriptions < MAX_SUBSCRIPTIONS
 room_for told chans waits place ask asks a awaits comes fit joined =
     room_for_join told chans waits place ask asks awaits (subst (λ b. ComesOf ask (made.Chan b)) joined comes) fit
 
-pub few_if_fit : (told : Told) (chans : ℕ) (waits : Waiting) → IsFit told chans waits → told.subscriptions ≤ 1024
+pub few_if_fit : (told : Told) (chans : ℕ) (waits : Waiting) → IsFit told chans waits → told.subscriptions ≤ MAX_SUBSCRIPTIONS
 few_if_fit told chans Nothing fit = fit
 few_if_fit told chans (Join k) fit = omega (arith, fit.0)
 few_if_fit told chans (Call k) fit = fit.0
@@ -99,7 +100,7 @@ shard_below told chans (Call k) some fit = fit.1
 shard_below told chans (SignIn k id sent watches) some fit = omega (arith, some)
 shard_below told chans (Watches ks) some fit = omega (arith, some)
 
-pub few_after : (n : ℕ) (a : ChanAnswer) → (a ≡ Joined → n < 1024) → n ≤ 1024 → count_after n (made.Chan a) ≤ 1024
+pub few_after : (n : ℕ) (a : ChanAnswer) → (a ≡ Joined → n < MAX_SUBSCRIPTIONS) → n ≤ MAX_SUBSCRIPTIONS → count_after n (made.Chan a) ≤ MAX_SUBSCRIPTIONS
 few_after n Joined room few = let less = room refl in omega (arith, less)
 few_after n Left room few = omega (arith, few)
 few_after n _ room few = few

@@ -20,6 +20,7 @@ use Rattle.ch_protocol.specs.declared.ask.Ask.{Ask}
 use Rattle.ch_protocol.specs.declared.ask.Ask.TheVariants.{Chan, User}
 use Rattle.ch_protocol.specs.declared.heard.Heard.{Heard}
 use Rattle.ch_protocol.specs.declared.heard.Heard.TheVariants as heard
+use Rattle.ch_protocol.specs.declared.error_codes.TheConstants.{UNAUTHORIZED}
 use Rattle.ch_session.specs.declared.judged.Judged.{Judged}
 use Rattle.ch_session.specs.Kept.{Kept, IsFit}
 use Rattle.ch_session.specs.Waits.{Awaits, HoldsData}
@@ -72,7 +73,7 @@ IsGoodReading (Err code) member u = Unit {0}
 
 -- a connection ends as unauthorized alone
 abbrev pub EndsAsUnauthorized : Heard → Type 0
-EndsAsUnauthorized (heard.End code) = code ≡ 4009
+EndsAsUnauthorized (heard.End code) = code ≡ UNAUTHORIZED
 EndsAsUnauthorized _ = Unit {0}
 
 -- what waits then are the asks of the answer, which are sound, and the session may wait for it

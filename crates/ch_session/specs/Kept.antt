@@ -13,6 +13,7 @@ use Rattle.ch_session.specs.declared.waiting.Waiting.{Waiting}
 use Rattle.ch_session.specs.declared.waiting.Waiting.TheVariants.{Nothing, Join, Call, SignIn, Watches}
 use Rattle.ch_session.specs.Losses.{losses_from, loss_at}
 use Rattle.ch_protocol.specs.Asks.{ComesOf}
+use Rattle.ch_protocol.specs.declared.limits.TheConstants.{MAX_SUBSCRIPTIONS}
 use Rattle.ch_session.specs.Told.{Told, Tells, uses_place}
 use Rattle.ch_session.specs.Waits.{Awaits, HoldsData}
 
@@ -70,12 +71,12 @@ losses_left s asks now = losses_from (uses_place s.chans asks) (loss_at s.chans 
 
 -- the asks that wait are on shards that there are, and a Join waits only where there may be one more subscription
 abbrev pub IsFit : Told → ℕ → Waiting → Type 0
-IsFit told chans Nothing = told.subscriptions ≤ 1024
-IsFit told chans (Join shard) = (told.subscriptions < 1024) × (shard < chans)
-IsFit told chans (Call shard) = (told.subscriptions ≤ 1024) × (shard < chans)
+IsFit told chans Nothing = told.subscriptions ≤ MAX_SUBSCRIPTIONS
+IsFit told chans (Join shard) = (told.subscriptions < MAX_SUBSCRIPTIONS) × (shard < chans)
+IsFit told chans (Call shard) = (told.subscriptions ≤ MAX_SUBSCRIPTIONS) × (shard < chans)
 IsFit told chans (SignIn shard user user_data watches) =
-    (told.subscriptions ≤ 1024) × (chans + shard < length told.used) × All (λ k. chans + k < length told.used) watches
-IsFit told chans (Watches shards) = (told.subscriptions ≤ 1024) × All (λ k. chans + k < length told.used) shards
+    (told.subscriptions ≤ MAX_SUBSCRIPTIONS) × (chans + shard < length told.used) × All (λ k. chans + k < length told.used) watches
+IsFit told chans (Watches shards) = (told.subscriptions ≤ MAX_SUBSCRIPTIONS) × All (λ k. chans + k < length told.used) shards
 
 -- there is a channel shard, the numbers are within their bounds, and what waits is fit
 abbrev pub IsSound : Kept → Type 0

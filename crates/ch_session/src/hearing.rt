@@ -20,20 +20,20 @@ use crate::reading::{Read, read_text};
 use crate::session::Session;
 use ch_base::{Frame, Member, Memory, Text};
 use ch_config::Config;
-use ch_protocol::{ClientMessage, Heard, UserData};
+use ch_protocol::{ClientMessage, Heard, INVALID_SIGNATURE, OUT_OF_MEMORY, UserData};
 
 impl Session {
     /// Hears a text at the moment `now`, while nothing waits to be settled.
     ///
-    /// The answer is exactly the one that the protocol judges, or a refusal with 4329 where there is no
-    /// memory. Nothing else changes but the heard moment and what waits to be settled.
+    /// The answer is exactly the one that the protocol judges, or a refusal with `OUT_OF_MEMORY`
+    /// where there is none. Nothing else changes but the heard moment and what waits to be settled.
     pub fn hear(&mut self, config: &Config, text: &Text, now: u64) -> Heard
         requires idle { self.old.waits ≡ Waiting.Nothing }
         requires config { IsConfig config.now }
         requires over { IsOver self.old config.now }
         requires now { IsMoment now }
         ensures judged { (start number : ℕ) (asks : List SettledAsk) → IsSession self.old start number asks →
-            (result ≡ Heard.Refuse 4329) ⊎ Hears (known config.now start number asks now) text.now self.new.waits result }
+            (result ≡ Heard.Refuse OUT_OF_MEMORY) ⊎ Hears (known config.now start number asks now) text.now self.new.waits result }
         ensures stands { (start number : ℕ) (asks : List SettledAsk) → IsSession self.old start number asks → IsSession self.new start number asks }
         ensures awaits { Awaits self.new.waits 0 (asks_of result) }
         ensures sound { All (IsSoundAsk config.now) (asks_of result) }
@@ -47,7 +47,7 @@ impl Session {
                 self.waits = judged.waits;
                 judged.heard
             }
-            Err(Memory) => Heard::Refuse(4329),
+            Err(Memory) => Heard::Refuse(OUT_OF_MEMORY),
         }
     }
 
@@ -170,14 +170,14 @@ impl Session {
 
     /// A subscribe to a user's own channel, by a socket that is signed in as this user or not.
     fn subscribe_own(&self, channel: Text, owns: bool) -> Judged
-        ensures heard { result.heard ≡ (if owns then Heard.Reply (Succeeded channel) else Heard.Refuse 4315) }
+        ensures heard { result.heard ≡ (if owns then Heard.Reply (Succeeded channel) else Heard.Refuse INVALID_SIGNATURE) }
         ensures ready { (config : Config) → IsReady self.now config [] result }
     {
         let _ = &self.alloc;
         if owns {
             Judged::plain(Heard::Reply(Frame::Succeeded { channel }))
         } else {
-            Judged::plain(Heard::Refuse(4315))
+            Judged::plain(Heard::Refuse(INVALID_SIGNATURE))
         }
     }
 

@@ -19,7 +19,10 @@ use crate::waiting::Waiting;
 use ch_base::{ChanCall, Member, Memory, Text};
 use ch_config::Config;
 use ch_names::{Kind, shard_of};
-use ch_protocol::Heard;
+use ch_protocol::{
+    CLIENT_EVENT_REFUSED, Heard, INVALID_CHANNEL_DATA, INVALID_SIGNATURE, RATE_LIMIT_REACHED,
+    TOO_MANY_SUBSCRIPTIONS,
+};
 
 impl Session {
     /// A subscribe to a channel that is no user's own.
@@ -42,14 +45,14 @@ impl Session {
         ensures ready { IfOk result (IsReady self.now config.now []) }
     {
         if self.told.is_full() {
-            return Ok(Judged::plain(Heard::Refuse(4319)));
+            return Ok(Judged::plain(Heard::Refuse(TOO_MANY_SUBSCRIPTIONS)));
         }
         let kind = kind_of(channel.as_str());
         if lacks_member(kind, member.as_ref()) {
-            return Ok(Judged::plain(Heard::Refuse(4316)));
+            return Ok(Judged::plain(Heard::Refuse(INVALID_CHANNEL_DATA)));
         }
         if self.lacks_auth(config, kind, &channel, auth.as_ref(), channel_data.as_ref())? {
-            return Ok(Judged::plain(Heard::Refuse(4315)));
+            return Ok(Judged::plain(Heard::Refuse(INVALID_SIGNATURE)));
         }
         let shard = shard_of(channel.as_str(), self.chans);
         let call = ChanCall::Join {
@@ -126,10 +129,10 @@ impl Session {
         let allowed = self.told.allows(now);
         let kind = kind_of(channel.as_str());
         if !permits_events(config, kind) {
-            return Ok(Judged::plain(Heard::Refuse(4317)));
+            return Ok(Judged::plain(Heard::Refuse(CLIENT_EVENT_REFUSED)));
         }
         if !allowed {
-            return Ok(Judged::plain(Heard::Refuse(4301)));
+            return Ok(Judged::plain(Heard::Refuse(RATE_LIMIT_REACHED)));
         }
         let shard = shard_of(channel.as_str(), self.chans);
         let call = ChanCall::Say {

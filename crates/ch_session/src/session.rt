@@ -19,7 +19,7 @@ use crate::target::target_refusal;
 use crate::waiting::Waiting;
 use ch_base::{ChanCall, UserCall};
 use ch_config::Config;
-use ch_protocol::{Ask, Heard};
+use ch_protocol::{Ask, Heard, MALFORMED_MESSAGE};
 use ch_rate::{Activity, Due};
 use std::alloc::Global;
 use std::marker::Model;
@@ -111,18 +111,18 @@ impl Session {
         self.activity.heard(now);
     }
 
-    /// Hears a binary message, which is refused with 4310.
+    /// Hears a binary message, which is refused as malformed.
     pub fn binary(&mut self, now: u64) -> Heard
         requires { IsMoment now }
-        ensures refused { result ≡ Heard.Refuse 4310 }
+        ensures refused { result ≡ Heard.Refuse MALFORMED_MESSAGE }
         ensures same { self.new ≡ record self.old { quiet = quiet_from now } }
         ensures stands { (start number : ℕ) (asks : List SettledAsk) → IsSession self.old start number asks → IsSession self.new start number asks }
     {
         self.activity.heard(now);
-        Heard::Refuse(4310)
+        Heard::Refuse(MALFORMED_MESSAGE)
     }
 
-    /// What the connection is due at the moment `now`: a ping after 120,000 ms of silence, its end 30,000 ms
+    /// What the connection is due at the moment `now`: a ping after `SILENCE` of `ch_rate`, its end `PATIENCE`
     /// after a ping that wasn't answered.
     pub fn tick(&mut self, now: u64) -> Due
         requires { IsMoment now }

@@ -13,7 +13,9 @@ ghost use Rattle.ch_session.specs.Waits.{Awaits, HoldsData, chan_shard_of};
 use crate::session::Session;
 use crate::waiting::Waiting;
 use ch_base::{ChanAnswer, Frame, Text, UserAnswer};
-use ch_protocol::{Made, Settled};
+use ch_protocol::{
+    ALREADY_SUBSCRIBED, CHANNEL_FULL, Made, NOT_SUBSCRIBED, OUT_OF_MEMORY, RECONNECT, Settled,
+};
 use std::mem;
 
 impl Session {
@@ -42,9 +44,9 @@ impl Session {
     {
         self.waits = Waiting::Nothing;
         if place == 0 {
-            Settled::Refuse(4329)
+            Settled::Refuse(OUT_OF_MEMORY)
         } else {
-            Settled::End(4200)
+            Settled::End(RECONNECT)
         }
     }
 
@@ -99,9 +101,9 @@ fn chan_outcome(answer: &ChanAnswer) -> Settled
     ensures { result ≡ chan_outcome answer.now }
 {
     match answer {
-        ChanAnswer::Already => Settled::Refuse(4313),
-        ChanAnswer::Crowded => Settled::Refuse(4320),
-        ChanAnswer::NotOn => Settled::Refuse(4314),
+        ChanAnswer::Already => Settled::Refuse(ALREADY_SUBSCRIBED),
+        ChanAnswer::Crowded => Settled::Refuse(CHANNEL_FULL),
+        ChanAnswer::NotOn => Settled::Refuse(NOT_SUBSCRIBED),
         _ => Settled::Nothing,
     }
 }

@@ -16,7 +16,9 @@ use crate::waiting::Waiting;
 use ch_base::{Memory, Text, UserCall};
 use ch_config::Config;
 use ch_names::shard_of;
-use ch_protocol::{Ask, AskList, Heard, UserData};
+use ch_protocol::{
+    ALREADY_SIGNED_IN, Ask, AskList, Heard, INVALID_USER_DATA, UNAUTHORIZED, UserData,
+};
 use std::alloc::Global;
 
 impl Session {
@@ -38,14 +40,14 @@ impl Session {
         ensures ready { IfOk result (IsReady self.now config.now user_data) }
     {
         if self.told.user().is_some() {
-            return Ok(Judged::plain(Heard::Refuse(4322)));
+            return Ok(Judged::plain(Heard::Refuse(ALREADY_SIGNED_IN)));
         }
         let Some(user) = user else {
-            return Ok(Judged::plain(Heard::Refuse(4321)));
+            return Ok(Judged::plain(Heard::Refuse(INVALID_USER_DATA)));
         };
         let id = socket_id(self.alloc, self.start, self.number)?;
         if !authorizes_user(config, id.as_str(), &auth, &user_data) {
-            return Ok(Judged::plain(Heard::End(4009)));
+            return Ok(Judged::plain(Heard::End(UNAUTHORIZED)));
         }
         signed_in(
             self.alloc,

@@ -3,8 +3,8 @@ use ch_base::Memory;
 /// Why a connection isn't opened.
 #[derive(Clone, Copy, Debug, PartialEq, Eq)]
 pub enum StartFault {
-    /// The target is refused with this code: 4005, 4001, 4008, 4006 or 4007 (Pusher Channels protocol,
-    /// "Error codes").
+    /// The target is refused with this code: `UNKNOWN_PATH`, `UNKNOWN_APP`, `NO_VERSION`, `INVALID_VERSION`
+    /// or `UNSUPPORTED_VERSION` of `ch_protocol`.
     Code(u16),
     /// There is no memory.
     Memory,

@@ -1,7 +1,6 @@
 ghost use Rattle.std.specs.Prelude.{◌≡◌, ◌<◌, ◌≤◌, ◌+◌, ◌-◌, ◌^◌, ◌∷◌, [], nat_le, length, replicate, true, false, None, Some, slice_set, IfOk, ◌++◌, List, ℕ};
 ghost use Rattle.std.specs.Option.{option_or, option_copied};
 ghost use Rattle.ch_rate.specs.Rate.{IsRateOf, rate_allows};
-ghost use Rattle.ch_protocol.specs.Sessions.{max_subscriptions};
 ghost use Rattle.ch_protocol.specs.Settling.{count_after};
 ghost use Rattle.ch_protocol.specs.declared.ask.Made.TheVariants.{Chan};
 ghost use Rattle.ch_base.specs.declared.channel.ChanAnswer.TheVariants.{Joined};
@@ -9,12 +8,10 @@ ghost use Rattle.ch_session.specs.Losses.{IsNextUsed};
 ghost use Rattle.ch_session.specs.Told.{accepted_with, used_with};
 
 use ch_base::{ChanAnswer, Memory, Text};
+use ch_protocol::MAX_SUBSCRIPTIONS;
 use ch_rate::Rate;
 use std::alloc::Global;
 use std::marker::Model;
-
-/// The most subscriptions of a socket.
-const MAX_SUBSCRIPTIONS: u64 = 1_024;
 
 /// What the settled asks of a session have told it.
 #[derive(Drop)]
@@ -51,7 +48,7 @@ impl Tally {
 
     /// Whether there are as many subscriptions as there may be.
     pub fn is_full(&self) -> bool
-        ensures { result ≡ nat_le max_subscriptions self.now.subscriptions }
+        ensures { result ≡ nat_le MAX_SUBSCRIPTIONS self.now.subscriptions }
     {
         self.subscriptions >= MAX_SUBSCRIPTIONS
     }
@@ -85,7 +82,7 @@ impl Tally {
 
     /// A call on the shard at this place was answered so at the moment `now`.
     pub fn answered(&mut self, place: u64, answer: &ChanAnswer, now: u64)
-        requires few { answer.now ≡ Joined → self.old.subscriptions < 1024 }
+        requires few { answer.now ≡ Joined → self.old.subscriptions < MAX_SUBSCRIPTIONS }
         requires place { place < length self.old.used }
         requires now { now ≤ 10 ^ 15 }
         ensures subscriptions { self.new.subscriptions ≡ count_after self.old.subscriptions (Chan answer.now) }

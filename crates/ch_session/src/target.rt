@@ -5,6 +5,7 @@ ghost use Rattle.ch_history.specs.ChannelName.{begins};
 ghost use Rattle.ch_protocol.specs.Targets.{target_refusal, path_of, query_of, app_in, app_prefix, is_app_path, is_slash, version_in, version_refusal, form_text, first_value};
 
 use ch_base::{Memory, Text};
+use ch_protocol::{INVALID_VERSION, NO_VERSION, UNKNOWN_APP, UNKNOWN_PATH, UNSUPPORTED_VERSION};
 use form_urlencoded::{decode, raw_pairs};
 use std::alloc::Global;
 
@@ -17,10 +18,10 @@ pub(crate) fn target_refusal(alloc: Global, key: &str, target: &str) -> Result<O
 {
     let path = path_of(target.as_bytes());
     if !is_app_path(path) {
-        return Ok(Some(4005));
+        return Ok(Some(UNKNOWN_PATH));
     }
     if app_in(path) != key.as_bytes() {
-        return Ok(Some(4001));
+        return Ok(Some(UNKNOWN_APP));
     }
     let version = version_in(alloc, query_of(target.as_bytes()))?;
     Ok(version_refusal(version.as_ref()))
@@ -99,14 +100,14 @@ fn version_refusal(version: Option<&Text>) -> Option<u16>
     ensures { result ≡ version_refusal (option_map (λ v. v.now) version.entry) }
 {
     let Some(version) = version else {
-        return Some(4008);
+        return Some(NO_VERSION);
     };
     if version.is_empty() || !is_digits(version.as_str()) {
-        Some(4006)
+        Some(INVALID_VERSION)
     } else if version.as_str() == "7" {
         None
     } else {
-        Some(4007)
+        Some(UNSUPPORTED_VERSION)
     }
 }
 

@@ -2,6 +2,7 @@ use Rattle.std.proofs.Common.{[], refl, sym, subst, rules}
 use Rattle.std.specs.Prelude.{IfOk, IsTrue}
 use Rattle.ch_base.specs.declared.channel.ChanCall.TheVariants.{Say}
 use Rattle.ch_history.specs.ChannelName.{may_say, kind_of}
+use Rattle.ch_protocol.specs.declared.error_codes.TheConstants.{RATE_LIMIT_REACHED}
 use Rattle.ch_session.specs.Judging.{IsReady}
 use Rattle.ch_session.specs.Kept.{Kept, IsOver}
 use Rattle.ch_session.proofs.JudgingLemmas.{call_ready, refusal_ready}
@@ -13,7 +14,7 @@ returns-then-not-allowed-clause-ready c =
     let old : Kept = record { start = c.self.inside.start; number = c.self.inside.number; chans = c.self.inside.chans; told = c.self.inside.told; waits = c.self.inside.waits; quiet = c.self.inside.activity; lost = c.self.inside.lost } in
     let P : Kept → Type 0 = λ s. IsReady s c.args.config.now [] c.plain-then-not-allowed.result in
     let few = few_if_fit c.self.inside.told c.self.inside.chans c.self.inside.waits c.self.invariant.4 in
-    subst P c.self.view_is (refusal_ready old c.args.config.now 4301 c.plain-then-not-allowed.result few c.plain-then-not-allowed.ensures)
+    subst P c.self.view_is (refusal_ready old c.args.config.now RATE_LIMIT_REACHED c.plain-then-not-allowed.result few c.plain-then-not-allowed.ensures)
 
 pub returns-clause-ready : goal.returns-clause-ready
 returns-clause-ready c =

@@ -1,5 +1,6 @@
 use Rattle.std.proofs.Common.{◌≡◌, ◌≤◌, length, ap, sym, refl, ◌∙◌, subst, arith}
 use Rattle.ch_protocol.specs.declared.ask.Made.TheVariants.{Chan}
+use Rattle.ch_protocol.specs.declared.limits.TheConstants.{MAX_SUBSCRIPTIONS}
 use Rattle.ch_session.specs.declared.waiting.Waiting.TheVariants.{Nothing}
 use Rattle.ch_session.specs.Kept.{Kept, IsSettled}
 use Rattle.ch_session.specs.Waits.{AwaitsNext}
@@ -25,7 +26,7 @@ invariant_of-self c =
       omega (arith, same, c.self.invariant.1),
       omega (arith, same, c.self.invariant.2),
       c.self.invariant.3,
-      subst (λ n. n ≤ 1024) (sym c.answered.ensures.subscriptions) (few_after c.self.inside.told.subscriptions c.args.answer.now room few),
+      subst (λ n. n ≤ MAX_SUBSCRIPTIONS) (sym c.answered.ensures.subscriptions) (few_after c.self.inside.told.subscriptions c.args.answer.now room few),
     )
 
 pub returns-clause-settled : goal.returns-clause-settled
