@@ -4,13 +4,13 @@ ghost use Rattle.std.specs.Char.{is_ascii_digit};
 ghost use Rattle.std.specs.List.{list_all};
 ghost use Rattle.std.specs.Option.{option_copied};
 ghost use Rattle.std.specs.Str.Parse.{digits_value};
-ghost use Rattle.ch_requests.specs.Authorization.{is_authorized, is_value, is_near, is_timestamp, difference, max_difference, is_digest, signature_of};
+ghost use Rattle.ch_requests.specs.Authorization.{is_authorized, is_value, is_near, is_timestamp, difference, is_digest, signature_of};
 ghost use Rattle.ch_requests.specs.Routes.{method_of};
 ghost use Rattle.ch_sig.specs.Parameters.{value_of};
 
 use ch_base::Text;
 use ch_config::Config;
-use ch_requests::{Request, Route};
+use ch_requests::{MAX_DIFFERENCE, Request, Route};
 use ch_sig::{md5_hex, request_sig};
 
 /// The version of the signatures.
@@ -18,9 +18,6 @@ const VERSION: &str = "1.0";
 
 /// The most digits of a second.
 const LONGEST_SECOND: usize = 15;
-
-/// By how many seconds a back end's clock may differ from the server's.
-const MAX_DIFFERENCE: u64 = 600;
 
 /// Whether the request is of the app, of this time, with its own body, and signed with the app's secret, and no name stands
 /// twice in its query. `now` is in milliseconds.
@@ -71,7 +68,7 @@ fn is_digits(value: &str) -> bool
 /// Whether the digits are a second near the moment.
 fn is_near_second(now: u64, value: &str) -> bool
     requires { IsTrue (is_timestamp value.now) }
-    ensures { result ≡ nat_le (difference (digits_value 10 value.now) (now / 1000)) max_difference }
+    ensures { result ≡ nat_le (difference (digits_value 10 value.now) (now / 1000)) MAX_DIFFERENCE }
 {
     match value.parse::<u64>() {
         Ok(second) => second.abs_diff(now / 1000) <= MAX_DIFFERENCE,

@@ -11,11 +11,8 @@ use crate::event_asks::event_asks;
 use crate::refusals::refused;
 use ch_base::Memory;
 use ch_config::Config;
-use ch_requests::{CountedList, Plan, Planned, ReplyForm, Trigger, TriggerList};
+use ch_requests::{CountedList, LONGEST_DATA, Plan, Planned, ReplyForm, Trigger, TriggerList};
 use std::alloc::Global;
-
-/// The longest data of an event, in bytes, unescaped (Pusher Channels documentation, HTTP API, "POST event").
-const LONGEST_DATA: u64 = 10240;
 
 /// How a reply tells the counts of events that were triggered.
 #[derive(Clone, Copy)]

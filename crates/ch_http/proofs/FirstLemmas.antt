@@ -5,7 +5,8 @@ use Rattle.std.specs.Prelude.{nat_le}
 use Rattle.std.proofs.lemmas.Bool.{leb-true, or_cases}
 use Rattle.std.proofs.lemmas.List.{length-take}
 use Rattle.std.proofs.lemmas.List.Sums.{sum_by-cons}
-use Rattle.ch_requests.specs.Heads.{first_bytes, first_lines, is_full, is_line_end, longest_head, most_lines}
+use Rattle.ch_requests.specs.Heads.{first_bytes, first_lines, is_full, is_line_end}
+use Rattle.ch_requests.specs.declared.limits.TheConstants.{LONGEST_HEAD, MOST_LINES}
 
 -- ---- the first bytes go on where more follow
 
@@ -22,9 +23,9 @@ first_lines_goes_on (suc n) (b ∷ xs) ys =
 
 pub first_bytes_goes_on : (bytes more : List ℕ) → (further : List ℕ) × (first_bytes (bytes ++ more) ≡ first_bytes bytes ++ further)
 first_bytes_goes_on bytes more =
-    let taken = take_goes_on longest_head bytes more in
-    let lines = first_lines_goes_on most_lines (take longest_head bytes) taken.0 in
-    (lines.0, ap (first_lines most_lines) taken.1 ∙ lines.1)
+    let taken = take_goes_on LONGEST_HEAD bytes more in
+    let lines = first_lines_goes_on MOST_LINES (take LONGEST_HEAD bytes) taken.0 in
+    (lines.0, ap (first_lines MOST_LINES) taken.1 ∙ lines.1)
 
 -- ---- they stay where they are full
 
@@ -59,19 +60,19 @@ first_lines_stays (suc n) (b ∷ xs) ys full =
 pub first_bytes_stays : (bytes more : List ℕ) → is_full (first_bytes bytes) ≡ true → first_bytes (bytes ++ more) ≡ first_bytes bytes
 first_bytes_stays bytes more full = ⊎_elim by_length by_lines (or_cases _ _ full)
   where
-    by_length : nat_le longest_head (length (first_bytes bytes)) ≡ true → first_bytes (bytes ++ more) ≡ first_bytes bytes
+    by_length : nat_le LONGEST_HEAD (length (first_bytes bytes)) ≡ true → first_bytes (bytes ++ more) ≡ first_bytes bytes
     by_length long =
-        let enough : longest_head ≤ length (first_bytes bytes) = leb-true _ _ long in
-        let shorter = length-first_lines most_lines (take longest_head bytes) in
-        ap (first_lines most_lines) (take_stays longest_head bytes more (omega (arith, enough, shorter)))
+        let enough : LONGEST_HEAD ≤ length (first_bytes bytes) = leb-true _ _ long in
+        let shorter = length-first_lines MOST_LINES (take LONGEST_HEAD bytes) in
+        ap (first_lines MOST_LINES) (take_stays LONGEST_HEAD bytes more (omega (arith, enough, shorter)))
 
-    by_lines : nat_le most_lines (count_by is_line_end (first_bytes bytes)) ≡ true → first_bytes (bytes ++ more) ≡ first_bytes bytes
+    by_lines : nat_le MOST_LINES (count_by is_line_end (first_bytes bytes)) ≡ true → first_bytes (bytes ++ more) ≡ first_bytes bytes
     by_lines many =
-        let taken = take_goes_on longest_head bytes more in
-        ap (first_lines most_lines) taken.1 ∙ first_lines_stays most_lines (take longest_head bytes) taken.0 (leb-true _ _ many)
+        let taken = take_goes_on LONGEST_HEAD bytes more in
+        ap (first_lines MOST_LINES) taken.1 ∙ first_lines_stays MOST_LINES (take LONGEST_HEAD bytes) taken.0 (leb-true _ _ many)
 
 pub length-first_bytes : (bytes : List ℕ) → length (first_bytes bytes) ≤ length bytes
 length-first_bytes bytes =
-    let lines = length-first_lines most_lines (take longest_head bytes) in
-    let taken = length-take longest_head bytes in
+    let lines = length-first_lines MOST_LINES (take LONGEST_HEAD bytes) in
+    let taken = length-take LONGEST_HEAD bytes in
     omega (arith, lines, taken)

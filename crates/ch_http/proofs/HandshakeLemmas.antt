@@ -2,7 +2,8 @@
 use Rattle.std.proofs.Common.{ℕ, ◌≤◌, List, [], length, take, drop, Bool, true, false, cond, Option, Some, None, sym, subst, arith}
 use Rattle.std.specs.Prelude.{nat_lt, bytes_eq}
 use Rattle.ch_protocol.specs.Targets.{path_of}
-use Rattle.ch_requests.specs.Fields.{BodyLength, missing, bad, is, body_length, longest_content}
+use Rattle.ch_requests.specs.Fields.{BodyLength, missing, bad, is, body_length}
+use Rattle.ch_requests.specs.declared.limits.TheConstants.{LONGEST_CONTENT}
 use Rattle.ch_requests.specs.Heads.{Heading, hopeless, unfinished, whole, IsHeading, first_bytes, is_full}
 use Rattle.ch_requests.specs.Routes.{route_of, decoded_route, method_of, get_method}
 use Rattle.ch_requests.specs.Verdict.{IsVerdict, look_by, with_route, with_name, with_length, request_of, is_upgrade, in_time}
@@ -29,7 +30,7 @@ with_length_tells : (n : ℕ) (head : Head) (route : Route) (behind : List ℕ) 
 with_length_tells n head route behind missing = tt
 with_length_tells n head route behind bad = tt
 with_length_tells n head route behind (is m) =
-    either n (nat_lt longest_content m) (Refuse 413) (cond (nat_lt (length behind) m) Need (Ready (request_of head route (take m behind)))) tt
+    either n (nat_lt LONGEST_CONTENT m) (Refuse 413) (cond (nat_lt (length behind) m) Need (Ready (request_of head route (take m behind)))) tt
     (either n (nat_lt (length behind) m) Need (Ready (request_of head route (take m behind))) tt tt)
 
 with_name_tells : (n : ℕ) (head : Head) (behind : List ℕ) (route : Option Route) → TellsAtMost n (with_name head behind route)

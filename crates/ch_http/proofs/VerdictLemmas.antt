@@ -4,7 +4,8 @@ use Rattle.std.specs.Prelude.{nat_lt, bytes_eq}
 use Rattle.std.proofs.lemmas.Bool.{ltb-false, le-ltb}
 use Rattle.std.proofs.lemmas.List.{take-append-le, drop-append-le}
 use Rattle.ch_protocol.specs.Targets.{path_of}
-use Rattle.ch_requests.specs.Fields.{BodyLength, missing, bad, is, body_length, longest_content}
+use Rattle.ch_requests.specs.Fields.{BodyLength, missing, bad, is, body_length}
+use Rattle.ch_requests.specs.declared.limits.TheConstants.{LONGEST_CONTENT}
 use Rattle.ch_requests.specs.Heads.{Heading, hopeless, unfinished, whole, IsHeading, first_bytes, is_full}
 use Rattle.ch_requests.specs.Routes.{route_of, decoded_route, method_of, get_method}
 use Rattle.ch_requests.specs.Verdict.{IsVerdict, look_by, look_behind, with_route, with_name, with_body, with_length, request_of, is_upgrade, in_time}
@@ -22,7 +23,7 @@ with_length_more : (head : Head) (route : Route) (behind more : List ℕ) (lengt
     → with_length head route (behind ++ more) length ≡ with_length head route behind length
 with_length_more head route behind more missing done = refl
 with_length_more head route behind more bad done = refl
-with_length_more head route behind more (is n) done = by_size (nat_lt longest_content n) done
+with_length_more head route behind more (is n) done = by_size (nat_lt LONGEST_CONTENT n) done
   where
     by_wait : (waits : Bool) → nat_lt (length behind) n ≡ waits
         → cond waits Need (Ready (request_of head route (take n behind))) ≢ Need

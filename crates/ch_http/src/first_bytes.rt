@@ -1,25 +1,21 @@
 ghost use Rattle.std.specs.Prelude.{◌≡◌, ◌≤◌, length, take};
 ghost use Rattle.std.specs.List.{count_by};
-ghost use Rattle.ch_requests.specs.Heads.{first_bytes, first_lines, is_full, is_line_end, most_lines};
+ghost use Rattle.ch_requests.specs.Heads.{first_bytes, first_lines, is_full, is_line_end};
 
-/// The most bytes of a head.
-const LONGEST_HEAD: usize = 8192;
-
-/// The most line ends of a head.
-pub(crate) const MOST_LINES: usize = 66;
+use ch_requests::{LONGEST_HEAD, MOST_LINES};
 
 /// The bytes among which a head is looked for.
 pub(crate) fn first_bytes(bytes: &[u8]) -> &[u8]
     ensures first { result.now ≡ first_bytes bytes.now }
-    ensures lines { count_by is_line_end result.now ≤ 66 }
+    ensures lines { count_by is_line_end result.now ≤ MOST_LINES }
 {
     first_lines(&bytes[..LONGEST_HEAD.min(bytes.len())])
 }
 
 /// The bytes up to the last line end that a head may have, that one among them.
 fn first_lines(bytes: &[u8]) -> &[u8]
-    ensures first { result.now ≡ first_lines most_lines bytes.now }
-    ensures lines { count_by is_line_end result.now ≤ 66 }
+    ensures first { result.now ≡ first_lines MOST_LINES bytes.now }
+    ensures lines { count_by is_line_end result.now ≤ MOST_LINES }
 {
     let mut lines = 0;
     'bytes: for (at, byte) in bytes.iter().enumerate() {

@@ -4,10 +4,9 @@ ghost use Rattle.httparse.specs.Spans.{IsWithin, IsHeaderWithin, IsRequestWithin
 ghost use Rattle.ch_requests.specs.Heads.{IsHeading, is_line_end, whole};
 ghost use Rattle.ch_http.specs.Headings.{IsHeadingOf, HasTextName, field_at};
 
-use crate::first_bytes::MOST_LINES;
 use crate::place::ends_in_target;
 use ch_base::{Bytes, Items, Memory, Text};
-use ch_requests::{FieldList, Head, HeadField};
+use ch_requests::{FieldList, Head, HeadField, MOST_LINES};
 use httparse::spans::{EMPTY_HEADER_SPAN, HeaderSpan, RequestSpans, Span, parse_request};
 use httparse::{Error, Status};
 use std::alloc::Global;
@@ -23,9 +22,9 @@ pub(crate) enum Heading {
     Whole(Head),
 }
 
-/// Reads the head with which the bytes begin. They have at most 66 line ends.
+/// Reads the head with which the bytes begin. They have at most [`MOST_LINES`] line ends.
 pub(crate) fn read_heading(alloc: Global, first: &[u8]) -> Result<Heading, Memory>
-    requires { count_by is_line_end first.now ≤ 66 }
+    requires { count_by is_line_end first.now ≤ MOST_LINES }
     ensures { IfOk result (IsHeadingOf first.now) }
 {
     let mut headers = [EMPTY_HEADER_SPAN; MOST_LINES];

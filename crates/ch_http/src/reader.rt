@@ -3,12 +3,9 @@ ghost use Rattle.ch_requests.specs.Verdict.{IsVerdict, in_time};
 
 use crate::verdict::judge;
 use ch_base::{Bytes, Memory, Text};
-use ch_requests::Look;
+use ch_requests::{LONGEST_WAIT, Look};
 use std::alloc::Global;
 use std::marker::Model;
-
-/// How long a request may take until it is whole, in milliseconds.
-const LONGEST_WAIT: u64 = 30_000;
 
 /// Gathers the bytes of one request.
 ///
@@ -47,10 +44,10 @@ impl RequestReader {
         Ok(())
     }
 
-    /// What the bytes are at this moment, on the server of the app with this id. A request that isn't whole 30,000
-    /// milliseconds after the reader was made is refused with 408.
+    /// What the bytes are at this moment, on the server of the app with this id. A request that isn't whole
+    /// [`LONGEST_WAIT`] after the reader was made is refused with 408.
     pub fn look(&self, alloc: Global, app_id: &Text, now: u64) -> Result<Look, Memory>
-        ensures { IfOk result (IsVerdict app_id.now self.now.bytes (nat_le (self.now.since + 30000) now)) }
+        ensures { IfOk result (IsVerdict app_id.now self.now.bytes (nat_le (self.now.since + LONGEST_WAIT) now)) }
     {
         let look = judge(alloc, app_id.as_str(), self.bytes.as_slice())?;
         Ok(in_time(is_late(self.since, now), look))
@@ -68,7 +65,7 @@ impl RequestReader {
 
 /// Whether the time of a request is over.
 fn is_late(since: u64, now: u64) -> bool
-    ensures { result ≡ nat_le (since + 30000) now }
+    ensures { result ≡ nat_le (since + LONGEST_WAIT) now }
 {
     now.saturating_sub(since) >= LONGEST_WAIT
 }

@@ -12,11 +12,8 @@ use crate::query::read_query;
 use crate::route::{decoded_route, method_of, route_of};
 use crate::target::{path_of, query_of};
 use ch_base::{Bytes, Memory, Text};
-use ch_requests::{Head, Look, Request, Route};
+use ch_requests::{Head, LONGEST_CONTENT, Look, Request, Route};
 use std::alloc::Global;
-
-/// The longest body, in bytes.
-const LONGEST_CONTENT: u64 = 1_048_576;
 
 /// The verdict on these bytes, on the server of the app with this id, while there is time.
 pub(crate) fn judge(alloc: Global, app_id: &str, bytes: &[u8]) -> Result<Look, Memory>

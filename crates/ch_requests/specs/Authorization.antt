@@ -10,6 +10,7 @@ use Rattle.ch_history.specs.OpenRows.{is_empty}
 use Rattle.ch_sig.specs.Hmac.{hmac_hex}
 use Rattle.ch_sig.specs.Parameters.{value_of}
 use Rattle.ch_sig.specs.SignedText.{request_text}
+use Rattle.ch_requests.specs.declared.limits.TheConstants.{MAX_DIFFERENCE}
 use Rattle.ch_requests.specs.Routes.{method_of}
 use Rattle.ch_requests.specs.declared.request.Request.{Request}
 
@@ -19,10 +20,6 @@ is_value None wanted = false
 is_value (Some value) wanted = bytes_eq value wanted
 
 -- ---- time
-
--- so many seconds a clock may be wrong, either way
-abbrev pub max_difference : ℕ
-max_difference = 600
 
 abbrev pub difference : ℕ → ℕ → ℕ
 difference m n = (m - n) + (n - m)
@@ -34,7 +31,7 @@ is_timestamp value = nat_le 1 (length value) && nat_le (length value) 15 && list
 -- the second is near that of the moment
 abbrev pub is_near : ℕ → Option (List ℕ) → Bool
 is_near now None = false
-is_near now (Some value) = is_timestamp value && nat_le (difference (digits_value 10 value) (now / 1000)) max_difference
+is_near now (Some value) = is_timestamp value && nat_le (difference (digits_value 10 value) (now / 1000)) MAX_DIFFERENCE
 
 -- ---- the body
 

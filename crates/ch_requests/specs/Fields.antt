@@ -29,10 +29,6 @@ field_lists name word fields = list_any (lists word) (values_of name fields)
 
 -- ---- the length of a body
 
--- the longest body, in bytes
-abbrev pub longest_content : ℕ
-longest_content = 1048576
-
 -- 1 to 19 digits
 abbrev pub is_length : List ℕ → Bool
 is_length value = nat_le 1 (length value) && nat_le (length value) 19 && list_all is_ascii_digit value

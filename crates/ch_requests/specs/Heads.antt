@@ -2,18 +2,11 @@
 use Rattle.std.specs.Prelude.{◌≡◌, ℕ, zero, suc, ◌==◌, Bool, ◌||◌, nat_le, List, [], ◌∷◌, length, take, map, if◌then◌else◌}
 use Rattle.std.specs.List.{count_by}
 use Rattle.httparse.specs.Grammar.{RequestHead, Field, ReadsRequest, HasNoRequest, NeverHasRequest, MayBecomeRequest, EndsInTarget, print_request, field_value}
+use Rattle.ch_requests.specs.declared.limits.TheConstants.{LONGEST_HEAD, MOST_LINES}
 use Rattle.ch_requests.specs.declared.head.Head.{Head}
 use Rattle.ch_requests.specs.declared.head.HeadField.{HeadField}
 
 -- ---- the first bytes
-
--- the most bytes of a head
-abbrev pub longest_head : ℕ
-longest_head = 8192
-
--- the most line ends of a head
-abbrev pub most_lines : ℕ
-most_lines = 66
 
 abbrev pub is_line_end : ℕ → Bool
 is_line_end b = b == 10
@@ -26,11 +19,11 @@ first_lines (suc n) (b ∷ bytes) = b ∷ first_lines (if is_line_end b then n e
 
 -- the bytes among which a head is looked for
 abbrev pub first_bytes : List ℕ → List ℕ
-first_bytes bytes = first_lines most_lines (take longest_head bytes)
+first_bytes bytes = first_lines MOST_LINES (take LONGEST_HEAD bytes)
 
 -- whether no more of them can come
 abbrev pub is_full : List ℕ → Bool
-is_full first = nat_le longest_head (length first) || nat_le most_lines (count_by is_line_end first)
+is_full first = nat_le LONGEST_HEAD (length first) || nat_le MOST_LINES (count_by is_line_end first)
 
 -- ---- heads
 

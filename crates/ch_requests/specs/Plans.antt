@@ -14,6 +14,7 @@ use Rattle.ch_sig.specs.Parameters.{value_of}
 use Rattle.ch_protocol.specs.UserChannels.{channel_user, is_user_channel}
 use Rattle.ch_protocol.specs.declared.ask.Ask.{Ask}
 use Rattle.ch_protocol.specs.declared.ask.Ask.TheVariants.{Chan, User}
+use Rattle.ch_requests.specs.declared.limits.TheConstants.{LONGEST_DATA}
 use Rattle.ch_requests.specs.Authorization.{is_authorized}
 use Rattle.ch_requests.specs.Fields.{is_comma}
 use Rattle.ch_requests.specs.Replies.{refusal}
@@ -61,12 +62,8 @@ wanted_of info channel = record {
 
 -- ---- triggers
 
--- the longest data of an event, in bytes, unescaped
-abbrev pub longest_data : ℕ
-longest_data = 10240
-
 abbrev pub is_too_long : Trigger → Bool
-is_too_long t = nat_lt longest_data t.size
+is_too_long t = nat_lt LONGEST_DATA t.size
 
 abbrev pub here_of : SocketId → Option ℕ
 here_of (Here number) = Some number

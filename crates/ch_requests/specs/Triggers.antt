@@ -9,6 +9,7 @@ use Rattle.ch_names.specs.SocketIds.{is_part}
 use Rattle.ch_protocol.specs.ClientMessages.{is_subscribable}
 use Rattle.ch_protocol.specs.ObjectMembers.{IsObjectText, AreDistinct, HasNone, HasOne, HasString, HasOptional, IsStringOf}
 use Rattle.ch_protocol.specs.UserDataText.{first_places}
+use Rattle.ch_requests.specs.declared.limits.TheConstants.{MOST_CHANNELS, MOST_EVENTS}
 use Rattle.ch_requests.specs.declared.request.Route.{Route}
 use Rattle.ch_requests.specs.declared.request.Route.TheVariants.{Events, BatchEvents}
 use Rattle.ch_requests.specs.declared.trigger.Trigger.{Trigger}
@@ -35,14 +36,10 @@ AreChannels text [] [] = Unit {0}
 AreChannels text (v ∷ vs) (name ∷ names) = IsStringOf text v name × IsTrue (is_subscribable name) × AreChannels text vs names
 AreChannels text _ _ = ⊥
 
--- the most channels of an event
-abbrev pub most_channels : ℕ
-most_channels = 100
-
 -- an array of 1 to 100 channels, of which a repeated one counts once
 pub record IsChannelList (text : List ℕ) (vs : Items) (channels : List (List ℕ)) : Type 0 where
   pub some : 1 ≤ length (items_of vs)
-  pub few : length (items_of vs) ≤ most_channels
+  pub few : length (items_of vs) ≤ MOST_CHANNELS
   pub names : List (List ℕ)
   pub are : AreChannels text (items_of vs) names
   pub once : channels ≡ first_places names
@@ -91,14 +88,10 @@ AreEvents text (v ∷ vs) (t ∷ ts) =
     ((ms : Members) × (s : Span) × (v ≡ object ms s) × IsEvent HasChannel text ms t) × AreEvents text vs ts
 AreEvents text _ _ = ⊥
 
--- the most events of a batch
-abbrev pub most_events : ℕ
-most_events = 10
-
 -- an array of 1 to 10 events
 pub record IsEventList (text : List ℕ) (vs : Items) (ts : List Trigger) : Type 0 where
   pub some : 1 ≤ length (items_of vs)
-  pub few : length (items_of vs) ≤ most_events
+  pub few : length (items_of vs) ≤ MOST_EVENTS
   pub are : AreEvents text (items_of vs) ts
 
 -- ---- bodies

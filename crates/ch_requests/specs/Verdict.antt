@@ -2,8 +2,9 @@
 -- Channels documentation, HTTP API).
 use Rattle.std.specs.Prelude.{◌≡◌, ℕ, Bool, ◌&&◌, nat_lt, List, [], length, take, drop, bytes_eq, codes, Option, Some, None, if◌then◌else◌}
 use Rattle.ch_protocol.specs.Targets.{path_of, query_of}
+use Rattle.ch_requests.specs.declared.limits.TheConstants.{LONGEST_CONTENT}
 use Rattle.ch_requests.specs.Heads.{Heading, hopeless, unfinished, whole, IsHeading, first_bytes, is_full}
-use Rattle.ch_requests.specs.Fields.{field_lists, BodyLength, missing, bad, is, body_length, longest_content}
+use Rattle.ch_requests.specs.Fields.{field_lists, BodyLength, missing, bad, is, body_length}
 use Rattle.ch_requests.specs.Queries.{members_of, params_of, has_double}
 use Rattle.ch_requests.specs.Routes.{route_of, decoded_route, method_of, get_method}
 use Rattle.ch_requests.specs.declared.head.Head.{Head}
@@ -33,7 +34,7 @@ abbrev pub with_length : Head → Route → List ℕ → BodyLength → Look
 with_length head route behind missing = Refuse 411
 with_length head route behind bad = Refuse 400
 with_length head route behind (is n) =
-    if nat_lt longest_content n then Refuse 413
+    if nat_lt LONGEST_CONTENT n then Refuse 413
     else if nat_lt (length behind) n then Need
     else Ready (request_of head route (take n behind))
 

@@ -9,6 +9,7 @@
 mod examples;
 mod handshake;
 mod head;
+mod limits;
 mod plan;
 mod reply;
 mod request;
@@ -17,6 +18,10 @@ mod trigger;
 pub use examples::{authorization_examples_hold, examples_hold, plan_examples_hold};
 pub use handshake::Shake;
 pub use head::{FieldList, Head, HeadField};
+pub use limits::{
+    LONGEST_CONTENT, LONGEST_DATA, LONGEST_HEAD, LONGEST_WAIT, MAX_DIFFERENCE, MOST_CHANNELS,
+    MOST_EVENTS, MOST_LINES,
+};
 pub use plan::{Counted, CountedList, Plan, Planned, ReplyForm, Wanted};
 pub use reply::Reply;
 pub use request::{Look, Request, Route};

@@ -11,11 +11,8 @@ use crate::event::single_event;
 use ch_base::Memory;
 use ch_json::{Doc, Node};
 use ch_members::{Array, array_member, object_at};
-use ch_requests::{Trigger, TriggerList};
+use ch_requests::{MOST_EVENTS, Trigger, TriggerList};
 use std::alloc::Global;
-
-/// The most events of a batch (Pusher Channels documentation, HTTP API, "POST batch events").
-const MOST_EVENTS: u64 = 10;
 
 /// The events that the member `batch` has.
 pub fn batch_member(

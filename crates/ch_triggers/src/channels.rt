@@ -9,10 +9,8 @@ use crate::names::{are_subscribable, is_subscribable};
 use ch_base::{Memory, TextList};
 use ch_json::{Doc, Node};
 use ch_members::{Array, array_member, first_places, is_absent, string_member, strings_of};
+use ch_requests::MOST_CHANNELS;
 use std::alloc::Global;
-
-/// The most channels of an event (Pusher Channels documentation, HTTP API, "POST event").
-const MOST_CHANNELS: u64 = 100;
 
 /// The channels that exactly one of the members `channel` and `channels` names.
 pub fn either_channels(

@@ -1,6 +1,6 @@
 use Rattle.std.proofs.Common.{◌≡◌, ◌<◌, take, take_all, add-one, sym, ap, arith}
 use Rattle.std.proofs.lemmas.Bool.{eq-eqb}
-use Rattle.ch_requests.specs.Heads.{most_lines}
+use Rattle.ch_requests.specs.declared.limits.TheConstants.{MOST_LINES}
 use Rattle.ch_http.proofs.LineLemmas.{lines, first_lines_all, first_lines_end}
 use Rattle.ch_http.proofs.first_bytes.first_lines.Goals as goal
 
@@ -14,5 +14,5 @@ returns-then-lines-eq-MOST_LINES-clause-first c =
 pub returns-clause-first : goal.returns-clause-first
 returns-clause-first c =
     let all = take_all c.bytes.at c.args.bytes.now c.bytes-test.false in
-    let few : lines c.args.bytes.now < most_lines = omega (arith, c.bytes.invariant.0, c.bytes.invariant.1, ap lines all) in
-    sym (first_lines_all most_lines c.args.bytes.now few)
+    let few : lines c.args.bytes.now < MOST_LINES = omega (arith, c.bytes.invariant.0, c.bytes.invariant.1, ap lines all) in
+    sym (first_lines_all MOST_LINES c.args.bytes.now few)
