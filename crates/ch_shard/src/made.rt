@@ -1,6 +1,7 @@
 ghost use Rattle.std.specs.Prelude.{◌≡◌, ℕ, ◌<◌, ◌≤◌, [], ◌++◌, All, OnOk, vec_len};
 ghost use Rattle.ch_history.specs.Deliveries.{for_owner};
-ghost use Rattle.ch_outbox.specs.Outbox.{frames_of, spare_of};
+ghost use Rattle.ch_outbox.specs.Outbox.{frames_of};
+ghost use Rattle.ch_shard.specs.Room.{HasRoom};
 
 use crate::deliveries::{deliver, log_all, reserve_for};
 use ch_base::{Hook, Memory};
@@ -34,7 +35,7 @@ pub fn make_room(outbox: &mut Outbox, log: &mut HookLog, made: &Made) -> Result<
     requires { All (λ d. d.owner < 64) made.now.frames.items }
     ensures frames { (w : ℕ) → frames_of outbox.new w ≡ frames_of outbox.old w }
     ensures hooks { log.new.hooks ≡ log.old.hooks }
-    ensures room_frames { OnOk result (All (λ d. vec_len made.now.frames ≤ spare_of outbox.new d.owner) made.now.frames.items) }
+    ensures room_frames { OnOk result (HasRoom outbox.new made.now.frames.items) }
     ensures room_hooks { OnOk result (vec_len made.now.hooks ≤ log.new.spare) }
 {
     reserve_for(outbox, made.frames.as_slice())?;
@@ -45,7 +46,7 @@ pub fn make_room(outbox: &mut Outbox, log: &mut HookLog, made: &Made) -> Result<
 /// no memory.
 pub fn hand_over(outbox: &mut Outbox, log: &mut HookLog, made: Made)
     requires owners { All (λ d. d.owner < 64) made.frames.items }
-    requires room_frames { All (λ d. vec_len made.frames ≤ spare_of outbox.old d.owner) made.frames.items }
+    requires room_frames { HasRoom outbox.old made.frames.items }
     requires room_hooks { vec_len made.hooks ≤ log.old.spare }
     ensures frames { (w : ℕ) → frames_of outbox.new w ≡ frames_of outbox.old w ++ for_owner w made.frames.items }
     ensures hooks { log.new.hooks ≡ log.old.hooks ++ made.hooks.items }
