@@ -43,12 +43,12 @@ frame_for_send =
     let number : IsSend u64-field.row = search sendable depth 12 in
     declared_send FrameFor.the_type (as_row_send u64-field number, (frame_send, tt))
 
-printed_send : IsSend Printed.the_row
+pub printed_send : IsSend Printed.the_row
 printed_send =
     let inside : IsSend InsidePrinted.the_row = search (sendable, crosses, frame_send, text_send) depth 24 in
     view_send InsidePrinted.the_row _ _ _ _ inside
 
-printed_sync : IsSync Printed.the_row
+pub printed_sync : IsSync Printed.the_row
 printed_sync =
     let inside : IsSync InsidePrinted.the_row = search (sendable, crosses, frame_sync, text_sync) depth 24 in
     view_sync InsidePrinted.the_row _ _ _ _ inside
