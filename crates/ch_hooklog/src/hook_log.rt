@@ -1,46 +1,74 @@
-ghost use Rattle.std.specs.Prelude.{◌≡◌, ◌+◌, ◌<◌, ◌≤◌, [], ◌∷◌, ◌++◌, OnOk};
+ghost use Rattle.std.specs.Prelude.{◌≡◌, ◌+◌, ◌<◌, ◌≤◌, [], ◌∷◌, ◌++◌, All, OnOk, length, map, nat_le, vec_len, vec_capacity};
+ghost use Rattle.std.specs.VecDeque.{deque_len, deque_capacity};
+ghost use Rattle.ch_hooklog.specs.Held.{is_due, due, not_due, vacated_of};
+ghost use Rattle.ch_hooklog.specs.HookLog.{is_of};
 
-use ch_base::{Hook, HookList, Memory};
+use crate::held_notice::{HELD_FOR, HeldNotice};
+use ch_base::{Hook, HookList, Memory, Text};
 use std::alloc::Global;
+use std::collections::VecDeque;
 use std::marker::Model;
 use std::mem;
 
-/// The webhook events that were made since the last take, and for how many more there is room.
+/// The webhook events that were made since the last take, the vacated notices that are held back, and for how many
+/// more of both there is room.
+///
+/// No held notice is older than the moment `oldest`, so that what is held is looked through only where one may be due.
 #[derive(Drop)]
 pub struct HookLog {
     alloc: Global,
     hooks: Vec<Hook>,
+    held: VecDeque<HeldNotice>,
+    oldest: u64,
+    spare: usize,
 }
 
 impl Model for HookLog {
-    ghost use Rattle.std.specs.Prelude.{◌-◌, vec_len, vec_capacity};
+    ghost use Rattle.std.specs.Prelude.{◌+◌, ◌≤◌, All, vec_len, vec_capacity};
+    ghost use Rattle.std.specs.VecDeque.{deque_len, deque_capacity};
     ghost use Rattle.ch_hooklog.specs.HookLog.{Logged};
 
     ghost Value = { Logged };
 
-    ghost view = { λ l. record { hooks = l.hooks.items; spare = vec_capacity l.hooks - vec_len l.hooks } };
+    ghost view = { λ l. record { hooks = l.hooks.items; held = l.held.items; spare = l.spare } };
+
+    ghost invariant = { λ l.
+        (vec_len l.hooks + l.spare ≤ vec_capacity l.hooks)
+        × (deque_len l.held + l.spare ≤ deque_capacity l.held)
+        × All (λ n. l.oldest ≤ n.since) l.held.items };
 }
 
 impl HookLog {
-    ghost use Rattle.ch_hooklog.specs.HookLog.{Puts};
+    ghost use Rattle.ch_hooklog.specs.HookLog.{Puts, is_held, without};
 
-    /// A log in which nothing waits. It takes no memory.
+    /// A log in which nothing waits or is held. It takes no memory.
     pub fn new(alloc: Global) -> HookLog
-        ensures { result.hooks ≡ [] }
+        ensures hooks { result.hooks ≡ [] }
+        ensures held { result.held ≡ [] }
     {
         HookLog {
             alloc,
             hooks: Vec::new(alloc),
+            held: VecDeque::new(alloc),
+            oldest: 0,
+            spare: 0,
         }
     }
 
-    /// Makes room for n more events. The log stays and no spare room falls, also where there is no memory.
+    /// Makes room for n more events or notices. The log and what is held stay and no spare room falls, also where
+    /// there is no memory.
     pub fn reserve(&mut self, n: u64) -> Result<(), Memory>
         ensures hooks { self.new.hooks ≡ self.old.hooks }
+        ensures held { self.new.held ≡ self.old.held }
         ensures spare { self.old.spare ≤ self.new.spare }
         ensures room { OnOk result (n ≤ self.new.spare) }
     {
-        self.hooks.reserve(n as usize)?;
+        let n = n as usize;
+        if self.spare < n {
+            self.hooks.reserve(n)?;
+            self.held.reserve(n)?;
+            self.spare = n;
+        }
         Ok(())
     }
 
@@ -50,14 +78,134 @@ impl HookLog {
         ensures { Puts self.old self.new hook }
     {
         self.hooks.push_reserved(hook);
+        self.spare -= 1;
     }
 
-    /// Takes all events out, the oldest first. It takes no memory.
+    /// Holds the channel's vacated notice back from this moment on, in milliseconds. It takes no memory.
+    pub fn hold(&mut self, channel: Text, now: u64)
+        requires { 0 < self.old.spare }
+        ensures hooks { self.new.hooks ≡ self.old.hooks }
+        ensures held { self.new.held ≡ self.old.held ++ record { channel = channel; since = now } ∷ [] }
+        ensures spare { self.new.spare + 1 ≡ self.old.spare }
+    {
+        self.oldest = if self.held.is_empty() {
+            now
+        } else {
+            self.oldest.min(now)
+        };
+        self.held.push_back_reserved(HeldNotice {
+            channel,
+            since: now,
+        });
+        self.spare -= 1;
+    }
+
+    /// Drops the channel's notice where one is held, and answers whether one was. It takes no memory.
+    pub fn cancel(&mut self, channel: &Text) -> bool
+        ensures answer { result ≡ is_held self.old.held channel.now }
+        ensures hooks { self.new.hooks ≡ self.old.hooks }
+        ensures held { self.new.held ≡ without self.old.held channel.now }
+        ensures spare { self.new.spare ≡ self.old.spare }
+    {
+        let is_held = is_held(&self.held, channel);
+        forget(&mut self.held, channel);
+        is_held
+    }
+
+    /// How many of the held notices are due at this moment, in milliseconds.
+    pub fn due(&self, now: u64) -> u64
+        ensures { result ≡ length (due self.now.held now) }
+    {
+        if !is_due(self.oldest, now) {
+            return 0;
+        }
+        count_due(&self.held, now)
+    }
+
+    /// Moves the notices that are due at this moment to the end of the log, in order. It takes no memory.
+    pub fn release(&mut self, now: u64)
+        requires { length (due self.old.held now) ≤ self.old.spare }
+        ensures hooks { self.new.hooks ≡ self.old.hooks ++ map vacated_of (due self.old.held now) }
+        ensures held { self.new.held ≡ not_due self.old.held now }
+        ensures spare { self.new.spare + length (due self.old.held now) ≡ self.old.spare }
+    {
+        if !is_due(self.oldest, now) {
+            return;
+        }
+        self.spare -= count_due(&self.held, now) as usize;
+        self.oldest = move_due(&mut self.held, &mut self.hooks, now);
+    }
+
+    /// Takes all events out, the oldest first. What is held stays. It takes no memory.
     pub fn take_all(&mut self) -> HookList
         ensures taken { result ≡ self.old.hooks }
         ensures emptied { self.new.hooks ≡ [] }
+        ensures held { self.new.held ≡ self.old.held }
     {
         let taken = mem::replace(&mut self.hooks, Vec::new(self.alloc));
+        self.spare = 0;
         HookList::from_vec(taken)
     }
+}
+
+ghost use Rattle.ch_hooklog.specs.HookLog.{is_held, without};
+
+/// Whether a notice held since then is due now.
+fn is_due(since: u64, now: u64) -> bool
+    ensures { result ≡ nat_le (since + HELD_FOR) now }
+{
+    now.saturating_sub(since) >= HELD_FOR
+}
+
+/// Whether a notice of the channel is held.
+fn is_held(held: &VecDeque<HeldNotice>, channel: &Text) -> bool
+    ensures { result ≡ is_held held.now.items channel.now }
+{
+    held.iter().any(|notice| notice.channel == *channel)
+}
+
+/// Drops the channel's notices.
+fn forget(held: &mut VecDeque<HeldNotice>, channel: &Text)
+    ensures items { held.new.items ≡ without held.old.items channel.now }
+    ensures len { deque_len held.new ≤ deque_len held.old }
+    ensures capacity { deque_capacity held.new ≡ deque_capacity held.old }
+{
+    held.retain(|notice| notice.channel != *channel);
+}
+
+/// How many of the held notices are due.
+fn count_due(held: &VecDeque<HeldNotice>, now: u64) -> u64
+    ensures { result ≡ length (due held.now.items now) }
+{
+    held.iter().filter(|notice| is_due(notice.since, now)).count() as u64
+}
+
+/// Moves the notices that are due to the end of the log, in order, and answers a moment that none of the others is
+/// older than.
+///
+/// What is held goes round once: each notice is taken from the front, and comes back at the end where it isn't due.
+fn move_due(held: &mut VecDeque<HeldNotice>, hooks: &mut Vec<Hook>, now: u64) -> u64
+    requires { vec_len hooks.old + length (due held.old.items now) ≤ vec_capacity hooks.old }
+    ensures hooks { hooks.new.items ≡ hooks.old.items ++ map vacated_of (due held.old.items now) }
+    ensures room { vec_capacity hooks.new ≡ vec_capacity hooks.old }
+    ensures held { held.new.items ≡ not_due held.old.items now }
+    ensures capacity { deque_capacity held.new ≡ deque_capacity held.old }
+    ensures oldest { All (λ n. result ≤ n.since) held.new.items }
+{
+    let mut oldest = now;
+    for _ in 0..held.len() {
+        let notice = match held.pop_front() {
+            Some(notice) => notice,
+            None => break,
+        };
+        if is_due(notice.since, now) {
+            hooks.push_reserved(Hook::Vacated {
+                channel: notice.channel,
+            });
+        } else {
+            oldest = oldest.min(notice.since);
+            held.push_back_reserved(notice);
+        }
+    }
+    oldest
 }
