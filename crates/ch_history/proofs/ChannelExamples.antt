@@ -1,7 +1,7 @@
 -- The worked histories of a channel shard hold, each by computing.
 use Rattle.std.proofs.Common.{[], ◌∷◌, codes, refl, arith}
 use Rattle.ch_base.specs.JsonText.{byte, IsJsonString}
-use Rattle.ch_history.specs.ChannelExamples.{ExceptedSocket, JoinedAgain, TwoSockets, AnotherUser, CacheNewcomers, HalfAnHour, SlowCaller, ThreeChannelsLost, FullRoom}
+use Rattle.ch_history.specs.ChannelExamples.{ExceptedSocket, JoinedAgain, JoinedLate, TwoSockets, UserAgain, AnotherUser, CacheNewcomers, HalfAnHour, SlowCaller, ThreeChannelsLost, FullRoom}
 
 is_string : IsJsonString (codes "\"x\"")
 is_string = (byte 120 ∷ [], (120 ∷ 34 ∷ [], refl, (refl, (34 ∷ [], refl, refl))))
@@ -20,10 +20,16 @@ excepted_socket = record {
 }
 
 pub joined_again : JoinedAgain
-joined_again = record { answered = (refl, (refl, (refl, (refl, tt)))); taken = refl; on_again = refl }
+joined_again = record { answered = (refl, (refl, (refl, (refl, tt)))); taken = refl; on_again = refl; not_held = refl }
+
+pub joined_late : JoinedLate
+joined_late = record { answered = (refl, (refl, (refl, (refl, tt)))) }
 
 pub two_sockets : TwoSockets
-two_sockets = record { answered = (refl, (refl, (refl, (refl, tt)))); first_info = refl; second_info = refl; nobody = refl; events = refl }
+two_sockets = record { answered = (refl, (refl, (refl, (refl, tt)))); first_info = refl; second_info = refl; nobody = refl; events = refl; vacated = refl }
+
+pub user_again : UserAgain
+user_again = record { answered = (refl, (refl, (refl, (refl, tt)))) }
 
 pub another_user : AnotherUser
 another_user = record { answered = (refl, (refl, (refl, (refl, (refl, (refl, (refl, (refl, tt)))))))); frames = refl; events = refl }
@@ -42,7 +48,7 @@ pub slow_caller : SlowCaller
 slow_caller = record { answered = (refl, (refl, (refl, (refl, (refl, (refl, (refl, tt))))))); ahead = refl; behind = refl }
 
 pub three_channels_lost : ThreeChannelsLost
-three_channels_lost = record { answered = (refl, (refl, (refl, (refl, (refl, tt))))); events = refl }
+three_channels_lost = record { answered = (refl, (refl, (refl, (refl, (refl, (refl, (refl, tt))))))) }
 
 pub full_room : FullRoom
 full_room = record { hundredth = refl; one_more = refl; one_of_them = refl }

@@ -18,7 +18,7 @@ use Rattle.ch_history.specs.Subscriptions.{subscriptions, on_channel, is_on, cha
 use Rattle.ch_history.specs.Presence.{users_in, has_user}
 use Rattle.ch_history.specs.Cache.{latest_row}
 use Rattle.ch_history.specs.Frames.{waiting}
-use Rattle.ch_history.specs.Webhooks.{pending}
+use Rattle.ch_history.specs.Pending.{pending}
 
 -- whether the presence channel is full and the member is none of its users; xs: its subscriptions
 abbrev pub is_crowded : List ℕ → List Subscription → Option Member → Bool
@@ -34,7 +34,7 @@ abbrev pub names_in : List Subscription → List ℕ → List (List ℕ)
 names_in xs prefix = filter (begins prefix) (ascending (map (λ s. s.channel) xs))
 
 -- what a call is answered; xs: the open subscriptions, kept: each channel's latest event, mine: the frames that wait for its
--- caller, log: the pending webhook events
+-- caller, log: the webhook events that are pending at this call
 abbrev pub answer_by : List Subscription → (List ℕ → Option CacheRow) → List FrameFor → List Hook → ChanCall → ChanAnswer
 answer_by xs kept mine log (Join socket c member at) =
     if is_on xs socket c then Already else if is_crowded c (on_channel xs c) member then Crowded else Joined
@@ -50,4 +50,4 @@ answer_by xs kept mine log (Users c) = Ids (users_in c (on_channel xs c))
 
 -- what the call of the caller w is answered after the history h
 abbrev pub answer_of : ChanHistory → ℕ → ChanCall → ChanAnswer
-answer_of h w call = answer_by (subscriptions h) (latest_row h call) (waiting h w) (pending h) call
+answer_of h w call = answer_by (subscriptions h) (latest_row h call) (waiting h w) (pending h call) call

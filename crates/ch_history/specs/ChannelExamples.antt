@@ -15,7 +15,8 @@ use Rattle.ch_history.specs.Steps.{AllHold}
 use Rattle.ch_history.specs.Subscriptions.{on}
 use Rattle.ch_history.specs.Presence.{users, user_rows}
 use Rattle.ch_history.specs.Frames.{waiting}
-use Rattle.ch_history.specs.Webhooks.{hook_list, pending}
+use Rattle.ch_history.specs.Held.{is_held}
+use Rattle.ch_history.specs.Pending.{hook_list, since_take}
 use Rattle.ch_history.specs.Answers.{answer_of, is_crowded}
 use Rattle.ch_history.specs.Legal.{IsLegal}
 
@@ -47,20 +48,34 @@ pub record ExceptedSocket : Type 0 where
   pub first : waiting published_but_to_one 0 ≡ gets 1 (frame.Succeeded a) ∷ []
   pub second : waiting published_but_to_one 1 ≡ gets 2 (frame.Succeeded a) ∷ gets 2 (frame.Event a (codes "e") (codes "\"x\"") None) ∷ []
 
--- One socket that joins, is lost, and joins again; the webhook events are taken at the end.
+-- One socket that is lost at 10 and joins again: less than 3,000 ms later the vacated notice is dropped, and no Occupied is made.
 
 abbrev pub joined_again : ChanHistory
 joined_again =
     entry 0 (Join 1 a None 0) answer.Joined
-    ∷ entry 0 (Lost 1 1) (answer.Gone 1)
-    ∷ entry 0 (Join 1 a None 2) answer.Joined
-    ∷ entry 0 (TakeHooks 3) (answer.Hooks (hook.Occupied a ∷ hook.Vacated a ∷ hook.Occupied a ∷ []))
+    ∷ entry 0 (Lost 1 10) (answer.Gone 1)
+    ∷ entry 0 (Join 1 a None 3009) answer.Joined
+    ∷ entry 0 (TakeHooks 3009) (answer.Hooks (hook.Occupied a ∷ []))
     ∷ []
 
 pub record JoinedAgain : Type 0 where
   pub answered : AllAnswered joined_again
-  pub taken : pending joined_again ≡ []
+  pub taken : since_take joined_again ≡ []
   pub on_again : on joined_again 1 a ≡ true
+  pub not_held : is_held joined_again a ≡ false
+
+-- The same with the second Join 3,000 ms later: the notice is due, and the channel is occupied anew.
+
+abbrev pub joined_late : ChanHistory
+joined_late =
+    entry 0 (Join 1 a None 0) answer.Joined
+    ∷ entry 0 (Lost 1 10) (answer.Gone 1)
+    ∷ entry 0 (Join 1 a None 3010) answer.Joined
+    ∷ entry 0 (TakeHooks 3010) (answer.Hooks (hook.Occupied a ∷ hook.Vacated a ∷ hook.Occupied a ∷ []))
+    ∷ []
+
+pub record JoinedLate : Type 0 where
+  pub answered : AllAnswered joined_late
 
 -- One user with two sockets: added once, removed once; the info is that of the first open subscription.
 
@@ -87,7 +102,26 @@ pub record TwoSockets : Type 0 where
   pub first_info : user_rows both_sockets room ≡ user (codes "u") (codes "1") ∷ []
   pub second_info : user_rows second_socket room ≡ user (codes "u") (codes "2") ∷ []
   pub nobody : users no_socket room ≡ []
-  pub events : hook_list no_socket ≡ hook.Occupied room ∷ hook.Added room (codes "u") ∷ hook.Removed room (codes "u") ∷ hook.Vacated room ∷ []
+  pub events : hook_list no_socket ≡ hook.Occupied room ∷ hook.Added room (codes "u") ∷ hook.Removed room (codes "u") ∷ []
+  pub vacated : is_held no_socket room ≡ true
+
+-- A user that is lost and comes again: that is told at once, and nothing is said of the channel.
+
+abbrev pub user_again : ChanHistory
+user_again =
+    entry 0 (Join 1 room (Some (user (codes "u") (codes "null"))) 0) answer.Joined
+    ∷ entry 0 (Lost 1 10) (answer.Gone 1)
+    ∷ entry 0 (Join 1 room (Some (user (codes "u") (codes "null"))) 20) answer.Joined
+    ∷ entry 0 (TakeHooks 20) (answer.Hooks (
+    hook.Occupied room
+    ∷ hook.Added room (codes "u")
+    ∷ hook.Removed room (codes "u")
+    ∷ hook.Added room (codes "u")
+    ∷ []))
+    ∷ []
+
+pub record UserAgain : Type 0 where
+  pub answered : AllAnswered user_again
 
 -- Another user comes and goes: the users that are there hear of it, and the newcomer is told of all, itself too.
 
@@ -142,7 +176,7 @@ pub record CacheNewcomers : Type 0 where
       ∷ gets 2 (frame.Succeeded kept)
       ∷ gets 2 (frame.Event kept (codes "e") (codes "\"1\"") None)
       ∷ []
-  pub events : hook_list cache_newcomers ≡ hook.Occupied kept ∷ hook.Miss kept ∷ hook.Vacated kept ∷ hook.Occupied kept ∷ []
+  pub events : hook_list cache_newcomers ≡ hook.Occupied kept ∷ hook.Miss kept ∷ []
 
 -- A cached event ends 1,800,000 ms after it was published. A Look tells of how many seconds are left, rounded up.
 
@@ -198,20 +232,21 @@ pub record SlowCaller : Type 0 where
   pub ahead : waiting slow_caller 1 ≡ gets 1 (frame.Succeeded kept) ∷ gets 1 (frame.Miss kept) ∷ []
   pub behind : waiting slow_caller 0 ≡ gets 2 (frame.Succeeded kept) ∷ gets 2 (frame.Miss kept) ∷ gets 2 event ∷ []
 
--- A loss over three channels: they are vacated in ascending order.
+-- A loss over three channels: their notices are held for 3,000 ms, in ascending order.
 
 abbrev pub three_channels_lost : ChanHistory
 three_channels_lost =
     entry 0 (Join 1 (codes "b") None 0) answer.Joined
     ∷ entry 0 (Join 1 (codes "a") None 0) answer.Joined
     ∷ entry 0 (Join 1 (codes "c") None 0) answer.Joined
-    ∷ entry 0 (TakeHooks 0) (answer.Hooks (hook.Occupied (codes "b") ∷ hook.Occupied (codes "a") ∷ hook.Occupied (codes "c") ∷ []))
     ∷ entry 0 (Lost 1 4) (answer.Gone 3)
+    ∷ entry 0 (TakeHooks 5) (answer.Hooks (hook.Occupied (codes "b") ∷ hook.Occupied (codes "a") ∷ hook.Occupied (codes "c") ∷ []))
+    ∷ entry 0 (TakeHooks 3003) (answer.Hooks [])
+    ∷ entry 0 (TakeHooks 3004) (answer.Hooks (hook.Vacated (codes "a") ∷ hook.Vacated (codes "b") ∷ hook.Vacated (codes "c") ∷ []))
     ∷ []
 
 pub record ThreeChannelsLost : Type 0 where
   pub answered : AllAnswered three_channels_lost
-  pub events : pending three_channels_lost ≡ hook.Vacated (codes "a") ∷ hook.Vacated (codes "b") ∷ hook.Vacated (codes "c") ∷ []
 
 -- A full presence channel: a hundredth user may join, a hundred and first may not, and a socket of one of them may.
 

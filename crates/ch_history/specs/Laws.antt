@@ -1,5 +1,5 @@
 -- Laws of every legal history of a channel shard.
-use Rattle.std.specs.Prelude.{◌≡◌, ℕ, Bool, true, false, not, ◌&&◌, ◌==◌, IsTrue, List, [], ◌∷◌, bytes_eq, Option, Some, None, filter, filter_map, length, if◌then◌else◌}
+use Rattle.std.specs.Prelude.{◌≡◌, ℕ, Bool, true, false, not, ◌&&◌, ◌||◌, ◌==◌, ◌≤◌, IsTrue, List, [], ◌∷◌, bytes_eq, Option, Some, None, filter, filter_map, length, if◌then◌else◌}
 use Rattle.ch_base.specs.declared.channel.ChanCall.{ChanCall}
 use Rattle.ch_base.specs.declared.channel.ChanCall.TheVariants.{Join}
 use Rattle.ch_base.specs.declared.frame.Frame.{Frame}
@@ -13,7 +13,8 @@ use Rattle.ch_history.specs.ChannelName.{is_presence, is_cache}
 use Rattle.ch_history.specs.Subscriptions.{is_joined, subs}
 use Rattle.ch_history.specs.Presence.{has_user}
 use Rattle.ch_history.specs.Frames.{frames}
-use Rattle.ch_history.specs.Webhooks.{hook_list}
+use Rattle.ch_history.specs.Pending.{hook_list}
+use Rattle.ch_history.specs.Held.{is_held, held}
 use Rattle.ch_history.specs.OpenRows.{is_empty}
 use Rattle.ch_history.specs.Legal.{IsLegal}
 
@@ -44,14 +45,29 @@ occupancy c (Occupied channel) = if bytes_eq channel c then Some true else None
 occupancy c (Vacated channel) = if bytes_eq channel c then Some false else None
 occupancy c _ = None
 
--- Occupied and Vacated of the channel alternate, beginning with Occupied; the last one is Occupied exactly where a socket is
--- subscribed, and where there is none no socket is
+-- whether the channel counts as occupied: a socket is subscribed, or its vacated notice is held
+abbrev pub counts_occupied : ChanHistory → List ℕ → Bool
+counts_occupied h c = is_occupied h c || is_held h c
+
+-- Occupied and Vacated of the channel alternate, beginning with Occupied; the last one is Occupied exactly where the channel
+-- counts as occupied, and where there is none it doesn't
 abbrev pub OccupancyAlternates : ChanHistory → List ℕ → Type 0
-OccupancyAlternates h c = Goes false (is_occupied h c) (filter_map (occupancy c) (hook_list h))
+OccupancyAlternates h c = Goes false (counts_occupied h c) (filter_map (occupancy c) (hook_list h))
 
 -- the law of occupancy
 abbrev pub OccupancyLaw : Type 0
 OccupancyLaw = (h : ChanHistory) → IsLegal h → (c : List ℕ) → OccupancyAlternates h c
+
+-- Held notices
+
+-- where the channel's vacated notice is held, no socket is subscribed, and one notice of it is held
+pub record IsHeldOnce (h : ChanHistory) (c : List ℕ) : Type 0 where
+  pub vacant : IsTrue (is_held h c) → is_occupied h c ≡ false
+  pub once : length (filter (λ notice. bytes_eq notice.channel c) (held h)) ≤ 1
+
+-- the law of held notices
+abbrev pub HeldLaw : Type 0
+HeldLaw = (h : ChanHistory) → IsLegal h → (c : List ℕ) → IsHeldOnce h c
 
 -- Membership
 

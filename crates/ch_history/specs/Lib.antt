@@ -11,6 +11,8 @@ pub mod Presence
 pub mod Cache
 pub mod Frames
 pub mod Webhooks
+pub mod Held
+pub mod Pending
 pub mod Answers
 pub mod WellFormed
 pub mod Legal

@@ -19,3 +19,8 @@ gathered_from starts f h (e ∷ later) =
 abbrev pub AllHold : {S : Type 0} → (List S → S → Type 0) → List S → List S → Type 0
 AllHold holds h [] = Unit {0}
 AllHold holds h (e ∷ later) = holds h e × AllHold holds (h ++ e ∷ []) later
+
+-- what f makes of a by each step in turn; h is the history before the steps
+abbrev pub folded : {S A : Type 0} → (List S → S → A → A) → A → List S → List S → A
+folded f a h [] = a
+folded f a h (e ∷ later) = folded f (f h e a) (h ++ e ∷ []) later

@@ -1,16 +1,15 @@
--- The webhook events that each entry makes, and those that no TakeHooks has taken (Pusher Channels documentation,
--- Webhooks, "Channel existence events", "Presence events", "Client events" and "Cache channel events").
-use Rattle.std.specs.Prelude.{ℕ, Bool, true, false, List, [], ◌∷◌, ◌++◌, Option, Some, None, is_none, flat_map, if◌then◌else◌}
+-- The webhook events of each entry, as they occur (Pusher Channels documentation, Webhooks, "Channel existence events",
+-- "Presence events", "Client events" and "Cache channel events"). A vacated notice is then held for a while.
+use Rattle.std.specs.Prelude.{ℕ, List, [], ◌∷◌, ◌++◌, Option, Some, None, is_none, flat_map, if◌then◌else◌}
 use Rattle.ch_base.specs.declared.channel.Member.{Member}
 use Rattle.ch_base.specs.declared.channel.ChanCall.{ChanCall}
-use Rattle.ch_base.specs.declared.channel.ChanCall.TheVariants.{Join, Leave, Lost, Say, TakeHooks}
+use Rattle.ch_base.specs.declared.channel.ChanCall.TheVariants.{Join, Leave, Lost, Say}
 use Rattle.ch_base.specs.declared.channel.ChanAnswer.{ChanAnswer}
 use Rattle.ch_base.specs.declared.webhook.Hook.{Hook}
 use Rattle.ch_base.specs.declared.webhook.Hook.TheVariants.{Occupied, Vacated, Added, Removed, Client, Miss}
 use Rattle.ch_history.specs.declared.rows.Subscription.{Subscription}
 use Rattle.ch_history.specs.declared.rows.Cached.{Cached}
 use Rattle.ch_history.specs.Entries.{ChanEntry, ChanHistory}
-use Rattle.ch_history.specs.Steps.{gathered}
 use Rattle.ch_history.specs.OpenRows.{is_empty}
 use Rattle.ch_history.specs.ChannelName.{is_cache}
 use Rattle.ch_history.specs.Subscriptions.{is_joined, subscriptions, on_channel, channels_in}
@@ -45,32 +44,19 @@ abbrev pub parting : List ℕ → List Subscription → List Subscription → �
 parting c before after socket = removed c before after (user_in before socket) ++ vacated c after
 
 -- the webhook events of a call; before, after and kept as for its frames
-abbrev pub hooks_by : List Subscription → List Subscription → (List ℕ → Option Cached) → ChanAnswer → ChanCall → List Hook
-hooks_by before after kept answer (Join socket c member at) =
+abbrev pub events_by : List Subscription → List Subscription → (List ℕ → Option Cached) → ChanAnswer → ChanCall → List Hook
+events_by before after kept answer (Join socket c member at) =
     if is_joined answer
     then occupied c (on_channel before c) ++ added c (on_channel before c) member ++ missed c (kept c)
     else []
-hooks_by before after kept answer (Leave socket c at) =
+events_by before after kept answer (Leave socket c at) =
     if is_left answer then parting c (on_channel before c) (on_channel after c) socket else []
-hooks_by before after kept answer (Lost socket at) =
+events_by before after kept answer (Lost socket at) =
     flat_map (λ c. parting c (on_channel before c) (on_channel after c) socket) (channels_in before socket)
-hooks_by before after kept answer (Say socket c event body at) =
+events_by before after kept answer (Say socket c event body at) =
     if is_said answer then Client c event body socket (user_in (on_channel before c) socket) ∷ [] else []
-hooks_by before after kept answer _ = []
+events_by before after kept answer _ = []
 
--- the webhook events that the entry e makes after the history h
-abbrev pub hooks : ChanHistory → ChanEntry → List Hook
-hooks h e = hooks_by (subscriptions h) (subscriptions (h ++ e ∷ [])) (latest h e.call) e.answer e.call
-
--- whether the call takes the pending webhook events
-abbrev pub is_take_hooks : ChanCall → Bool
-is_take_hooks (TakeHooks at) = true
-is_take_hooks _ = false
-
--- all webhook events of the history
-abbrev pub hook_list : ChanHistory → List Hook
-hook_list h = gathered (λ e. false) hooks [] h
-
--- those since the last TakeHooks of any caller
-abbrev pub pending : ChanHistory → List Hook
-pending h = gathered (λ e. is_take_hooks e.call) hooks [] h
+-- the webhook events of the entry e after the history h
+abbrev pub events_at : ChanHistory → ChanEntry → List Hook
+events_at h e = events_by (subscriptions h) (subscriptions (h ++ e ∷ [])) (latest h e.call) e.answer e.call

@@ -1,5 +1,5 @@
 ghost use Rattle.ch_history.specs.NameExamples.{KindExamples, NameExamples, PlaceExamples};
-ghost use Rattle.ch_history.specs.ChannelExamples.{ExceptedSocket, JoinedAgain, TwoSockets, AnotherUser, CacheNewcomers, HalfAnHour, SlowCaller, ThreeChannelsLost, FullRoom};
+ghost use Rattle.ch_history.specs.ChannelExamples.{ExceptedSocket, JoinedAgain, JoinedLate, TwoSockets, UserAgain, AnotherUser, CacheNewcomers, HalfAnHour, SlowCaller, ThreeChannelsLost, FullRoom};
 ghost use Rattle.ch_history.specs.UserExamples.{TwoSignedIn, WatchedLate, WatchesItself};
 
 /// Names of each kind, good names and bad ones, and the shards of names by the test values of the
@@ -15,7 +15,9 @@ pub fn name_examples_hold()
 pub fn channel_examples_hold()
     ensures excepted_socket { ExceptedSocket }
     ensures joined_again { JoinedAgain }
+    ensures joined_late { JoinedLate }
     ensures two_sockets { TwoSockets }
+    ensures user_again { UserAgain }
     ensures another_user { AnotherUser }
     ensures cache_newcomers { CacheNewcomers }
     ensures half_an_hour { HalfAnHour }

@@ -1,10 +1,15 @@
-ghost use Rattle.ch_history.specs.Laws.{OccupancyLaw, MembershipLaw, CacheNewcomerLaw};
+ghost use Rattle.ch_history.specs.Laws.{OccupancyLaw, HeldLaw, MembershipLaw, CacheNewcomerLaw};
 ghost use Rattle.ch_history.specs.UserLaws.{WatchersLaw};
 
 /// `channel_occupied` and `channel_vacated` of each channel alternate in every legal history, and
-/// end at whether a socket is subscribed.
+/// end at whether a socket is subscribed or the channel's vacated notice is held.
 pub fn occupancy_alternates()
     ensures { OccupancyLaw }
+{}
+
+/// A channel whose vacated notice is held has no subscription, and is held once.
+pub fn held_channels_are_vacant()
+    ensures { HeldLaw }
 {}
 
 /// `member_added` and `member_removed` of each user of each presence channel alternate in every

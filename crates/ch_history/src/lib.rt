@@ -13,7 +13,8 @@ mod rows;
 
 pub use examples::{channel_examples_hold, name_examples_hold, user_examples_hold};
 pub use laws::{
-    cache_newcomers_are_told, membership_alternates, occupancy_alternates, watchers_are_told,
+    cache_newcomers_are_told, held_channels_are_vacant, membership_alternates,
+    occupancy_alternates, watchers_are_told,
 };
-pub use limits::CACHED_FOR;
-pub use rows::{Cached, Delivery, Subscription, UserSocket};
+pub use limits::{CACHED_FOR, HELD_FOR};
+pub use rows::{Cached, Delivery, HeldNotice, Subscription, UserSocket};

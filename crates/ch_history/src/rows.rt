@@ -19,6 +19,14 @@ pub struct Cached {
     pub ends: u64,
 }
 
+/// A vacated notice that is held: the channel whose last subscription ended, and since when, a moment
+/// of the shard's clock in milliseconds.
+#[derive(Debug, PartialEq, Eq, Drop)]
+pub struct HeldNotice {
+    pub channel: Text,
+    pub since: u64,
+}
+
 /// A socket that is signed in as a user or watches one. The owner is the caller that made it so.
 #[derive(Debug, PartialEq, Eq, Drop)]
 pub struct UserSocket {

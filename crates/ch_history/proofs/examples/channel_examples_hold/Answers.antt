@@ -5,7 +5,9 @@ pub returns : goal.returns
 returns c = record {
   excepted_socket = proof.excepted_socket;
   joined_again = proof.joined_again;
+  joined_late = proof.joined_late;
   two_sockets = proof.two_sockets;
+  user_again = proof.user_again;
   another_user = proof.another_user;
   cache_newcomers = proof.cache_newcomers;
   half_an_hour = proof.half_an_hour;
