@@ -19,7 +19,7 @@ use Rattle.ch_history.specs.Subscriptions.{is_joined, opened, settles, subscript
 use Rattle.ch_history.specs.Presence.{has_user, user_in}
 use Rattle.ch_history.specs.Cache.{latest}
 use Rattle.ch_history.specs.Frames.{is_gone, is_said}
-use Rattle.ch_history.specs.Webhooks.{occupied, added, missed, removed, vacated, parting, hooks}
+use Rattle.ch_history.specs.Webhooks.{occupied, added, missed, removed, vacated, parting, events_at}
 use Rattle.ch_history.specs.OpenRows.{is_empty}
 use Rattle.ch_history.specs.Answers.{answer_of, is_crowded}
 use Rattle.ch_history.proofs.Lists.{filter-none, filter-flat_map, filter-if, filter-unless}
@@ -40,9 +40,9 @@ about c made = filter (concerns c) made
 
 -- how the entry e after h changes the channel c
 pub data Change (h : ChanHistory) (e : ChanEntry) (c : List ℕ) : Type 0 where
-  same : subs (h ++ e ∷ []) c ≡ subs h c → about c (hooks h e) ≡ [] → Change h e c
-  opens : (n : Subscription) → subs (h ++ e ∷ []) c ≡ subs h c ++ n ∷ [] → about c (hooks h e) ≡ about c (occupied c (subs h c) ++ added c (subs h c) n.member) → Change h e c
-  ends : (socket : ℕ) → on h socket c ≡ true → subs (h ++ e ∷ []) c ≡ filter (λ s. not (s.socket == socket)) (subs h c) → about c (hooks h e) ≡ about c (parting c (subs h c) (subs (h ++ e ∷ []) c) socket) → Change h e c
+  same : subs (h ++ e ∷ []) c ≡ subs h c → about c (events_at h e) ≡ [] → Change h e c
+  opens : (n : Subscription) → subs (h ++ e ∷ []) c ≡ subs h c ++ n ∷ [] → about c (events_at h e) ≡ about c (occupied c (subs h c) ++ added c (subs h c) n.member) → Change h e c
+  ends : (socket : ℕ) → on h socket c ≡ true → subs (h ++ e ∷ []) c ≡ filter (λ s. not (s.socket == socket)) (subs h c) → about c (events_at h e) ≡ about c (parting c (subs h c) (subs (h ++ e ∷ []) c) socket) → Change h e c
 
 -- What is made of another channel
 
@@ -73,7 +73,7 @@ about-missed c d kept =
 -- The calls
 
 -- a call that opens no subscription and settles none
-quiet : (h : ChanHistory) (e : ChanEntry) (c : List ℕ) → opened e ≡ None → ((s : Subscription) → settles s e ≡ false) → about c (hooks h e) ≡ [] → Change h e c
+quiet : (h : ChanHistory) (e : ChanEntry) (c : List ℕ) → opened e ≡ None → ((s : Subscription) → settles s e ≡ false) → about c (events_at h e) ≡ [] → Change h e c
 quiet h e c nothing none silent =
     same (subs-same h e c nothing (none_settled settles (subs h c) e none)) silent
 
@@ -82,7 +82,7 @@ joined h w socket d m at c off =
     let e : ChanEntry = entry w (Join socket d m at) Joined in
     let n : Subscription = record { channel = d; socket = socket; owner = w; member = m } in
     let arrives : List Hook = occupied d (subs h d) ++ added d (subs h d) m in
-    let made : about c (hooks h e) ≡ about c arrives =
+    let made : about c (events_at h e) ≡ about c arrives =
     filter-append (concerns c) arrives (missed d (latest h e.call d)) ∙ ap (λ gs. about c arrives ++ gs) (about-missed c d (latest h e.call d)) ∙ append-nil (about c arrives) in
     let after : subs (h ++ e ∷ []) c ≡ subs h c ++ cond (bytes_eq d c) (n ∷ []) [] =
     subs-push h e c ∙ ap (λ xs. xs ++ cond (bytes_eq d c) (n ∷ []) []) (filter-none (λ s. settles s e) (subs h c) (not_on h socket d c off)) in
@@ -112,11 +112,11 @@ lost h w socket at a c =
     let k : ChanHistory = h ++ e ∷ [] in
     let part : List ℕ → List Hook = λ d. parting d (subs h d) (subs k d) socket in
     let its : List (List ℕ) = map (λ s. s.channel) (filter (λ s. s.socket == socket) (subscriptions h)) in
-    let made : about c (hooks h e) ≡ cond (on h socket c) (about c (part c)) [] =
+    let made : about c (events_at h e) ≡ cond (on h socket c) (about c (part c)) [] =
     filter-flat_map (concerns c) part (channels_of h socket)
     ∙ flat_map-ascending (λ d. about c (part d)) c (λ d differs. about-parting c d (subs h d) (subs k d) socket differs) its
     ∙ ap (λ b. cond b (about c (part c)) []) (in_names socket_of channel_of (subscriptions h) socket c) in
-    (elim (on h socket c) as (λ b. on h socket c ≡ b → about c (hooks h e) ≡ cond b (about c (part c)) [] → Change h e c) [
+    (elim (on h socket c) as (λ b. on h socket c ≡ b → about c (events_at h e) ≡ cond b (about c (part c)) [] → Change h e c) [
       | true ↦ (λ there made. ends socket there (subs-left h e c (opens_nothing (is_joined a))) made)
       | false ↦ (λ off made. same (subs-same h e c (opens_nothing (is_joined a)) off) made)
     ]) refl made

@@ -9,6 +9,7 @@ pub mod Subscriptions
 pub mod Members
 pub mod Change
 pub mod Marks
+pub mod Held
 pub mod Occupancy
 pub mod Membership
 pub mod CacheNewcomer

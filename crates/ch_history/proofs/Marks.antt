@@ -3,7 +3,8 @@ use Rattle.std.proofs.Common.{◌≡◌, Bool, false, List, [], ◌∷◌, ◌++
 use Rattle.std.proofs.lemmas.List.Elements.{filter_map-append}
 use Rattle.ch_base.specs.declared.webhook.Hook.{Hook}
 use Rattle.ch_history.specs.Entries.{ChanEntry, ChanHistory}
-use Rattle.ch_history.specs.Webhooks.{hooks, hook_list}
+use Rattle.ch_history.specs.Held.{hooks}
+use Rattle.ch_history.specs.Pending.{hook_list}
 use Rattle.ch_history.specs.Legal.{Follows, IsLegal}
 use Rattle.ch_history.specs.Laws.{Alternates, last_from, Goes}
 use Rattle.ch_history.proofs.Push.{hook_list-push}

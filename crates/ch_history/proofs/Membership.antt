@@ -14,13 +14,17 @@ use Rattle.ch_history.specs.ChannelName.{is_presence}
 use Rattle.ch_history.specs.Subscriptions.{subs}
 use Rattle.ch_history.specs.Presence.{members_in, has_user, user_in}
 use Rattle.ch_history.specs.Frames.{is_gone}
-use Rattle.ch_history.specs.Webhooks.{occupied, added, removed, vacated, parting, hooks, hook_list}
+use Rattle.ch_history.specs.Webhooks.{occupied, added, removed, vacated, parting, events_at}
+use Rattle.ch_history.specs.Held.{held, hooks}
+use Rattle.ch_history.specs.Pending.{hook_list}
+use Rattle.ch_history.specs.Clock.{clock_with, clock}
 use Rattle.ch_history.specs.OpenRows.{is_empty}
 use Rattle.ch_history.specs.Legal.{IsLegal}
 use Rattle.ch_history.specs.Laws.{Goes, membership, MembershipAlternates}
 use Rattle.ch_history.proofs.Lists.{list_any-map, list_any-parts, filter_map-filter}
 use Rattle.ch_history.proofs.Texts.{same_text, text_itself, has_text-ascending}
 use Rattle.ch_history.proofs.Marks.{Goes-nowhere, Goes-same, hooks_go}
+use Rattle.ch_history.proofs.Held.{hooks-silent}
 use Rattle.ch_history.proofs.Subscriptions.{only_one}
 use Rattle.ch_history.proofs.Change.{Change, same, opens, ends, change, concerns, about}
 
@@ -147,15 +151,15 @@ parts c id xs ys (Some m) kind before =
     ]) refl (before id) said
 
 -- one entry
-turns : (h : ChanHistory) (e : ChanEntry) (c id : List ℕ) → is_presence c ≡ true → IsLegal h → Change h e c → Goes (among (subs h c) id) (among (subs (h ++ e ∷ []) c) id) (marks c id (hooks h e))
+turns : (h : ChanHistory) (e : ChanEntry) (c id : List ℕ) → is_presence c ≡ true → IsLegal h → Change h e c → Goes (among (subs h c) id) (among (subs (h ++ e ∷ []) c) id) (marks c id (events_at h e))
 turns h e c id kind legal (same still made) =
     let there = among (subs h c) id in
-    Goes-same there (among (subs (h ++ e ∷ []) c) id) there there (marks c id (hooks h e)) [] refl (ap (λ xs. among xs id) still) (marks-about c id (hooks h e) [] made) (Goes-nowhere there)
+    Goes-same there (among (subs (h ++ e ∷ []) c) id) there there (marks c id (events_at h e)) [] refl (ap (λ xs. among xs id) still) (marks-about c id (events_at h e) [] made) (Goes-nowhere there)
 turns h e c id kind legal (opens n after made) =
     let xs = subs h c in
-    Goes-same (among xs id) (among (subs (h ++ e ∷ []) c) id) (among xs id) (among xs id || is_user id n.member) (marks c id (hooks h e)) (marks c id (added c xs n.member)) refl
+    Goes-same (among xs id) (among (subs (h ++ e ∷ []) c) id) (among xs id) (among xs id || is_user id n.member) (marks c id (events_at h e)) (marks c id (added c xs n.member)) refl
     (ap (λ ys. among ys id) after ∙ among-push xs n id)
-    (marks-about c id (hooks h e) (occupied c xs ++ added c xs n.member) made
+    (marks-about c id (events_at h e) (occupied c xs ++ added c xs n.member) made
     ∙ filter_map-append (membership c id) (occupied c xs) (added c xs n.member)
     ∙ ap (λ ms. ms ++ marks c id (added c xs n.member)) (marks-occupied c id xs))
     (comes c id xs n.member kind)
@@ -165,8 +169,8 @@ turns h e c id kind legal (ends socket there after made) =
     let only = only_one h socket c legal there in
     let gone : Option Member = (only.0).member in
     let user : user_in xs socket ≡ option_map (λ m. m.user_id) gone = ap (λ o. option_map (λ m. m.user_id) (option_and_then (λ s. s.member) o)) only.1.found in
-    Goes-same (among xs id) (among ys id) (among xs id) (among ys id) (marks c id (hooks h e)) (marks c id (removed c xs ys (option_map (λ m. m.user_id) gone))) refl refl
-    (marks-about c id (hooks h e) (parting c xs ys socket) made
+    Goes-same (among xs id) (among ys id) (among xs id) (among ys id) (marks c id (events_at h e)) (marks c id (removed c xs ys (option_map (λ m. m.user_id) gone))) refl refl
+    (marks-about c id (events_at h e) (parting c xs ys socket) made
     ∙ filter_map-append (membership c id) (removed c xs ys (user_in xs socket)) (vacated c ys)
     ∙ ap₂ (λ u ms. marks c id (removed c xs ys u) ++ ms) user (marks-vacated c id ys)
     ∙ append-nil (marks c id (removed c xs ys (option_map (λ m. m.user_id) gone))))
@@ -177,4 +181,9 @@ membership_law h legal c id kind =
     let made = marks c id (hook_list h) in
     Goes-same false (has_user c (subs h c) id) false (among (subs h c) id) made made refl (has_user_is c (subs h c) id kind) refl
     (hooks_go (membership c id) (λ g. among (subs g c) id) refl
-    (λ g e ok follows. turns g e c id kind ok (change g e.caller e.call e.answer c follows.answered)) h legal)
+    (λ g e ok follows.
+    let there = among (subs g c) id in
+    let then_there = among (subs (g ++ e ∷ []) c) id in
+    Goes-same there then_there there then_there (marks c id (hooks g e)) (marks c id (events_at g e)) refl refl
+    (hooks-silent (membership c id) (clock_with (clock g) e.call) (events_at g e) (held g) (λ d. refl) (λ d. refl))
+    (turns g e c id kind ok (change g e.caller e.call e.answer c follows.answered))) h legal)

@@ -8,8 +8,10 @@ use Rattle.ch_history.specs.Clock.{clock_with, clock_after, clock}
 use Rattle.ch_history.specs.Cache.{published, latter, last_published, lasting, renewed, latest_at}
 use Rattle.ch_history.specs.Deliveries.{for_owner}
 use Rattle.ch_history.specs.Frames.{takes, waiting, frames}
-use Rattle.ch_history.specs.Webhooks.{is_take_hooks, hooks, hook_list, pending}
-use Rattle.ch_history.proofs.Steps.{open_rows-push, gathered-push}
+use Rattle.ch_history.specs.Webhooks.{events_at}
+use Rattle.ch_history.specs.Held.{held_after, held, hooks}
+use Rattle.ch_history.specs.Pending.{is_take_hooks, hook_list, since_take}
+use Rattle.ch_history.proofs.Steps.{open_rows-push, gathered-push, folded-push}
 
 -- the subscriptions that the entry leaves open, and then the one that it opens
 pub subscriptions-push : (h : ChanHistory) (e : ChanEntry) → subscriptions (h ++ e ∷ []) ≡ subs_after (subscriptions h) e
@@ -57,10 +59,14 @@ latest_at-push h c now e =
 pub waiting-push : (h : ChanHistory) (w : ℕ) (e : ChanEntry) → waiting (h ++ e ∷ []) w ≡ cond (takes w e) [] (waiting h w ++ for_owner w (frames h e))
 waiting-push h w e = gathered-push (takes w) (λ before d. for_owner w (frames before d)) [] h e
 
+-- the notices that are held, after the moment and the webhook events of the entry
+pub held-push : (h : ChanHistory) (e : ChanEntry) → held (h ++ e ∷ []) ≡ held_after (clock_with (clock h) e.call) (events_at h e) (held h)
+held-push h e = folded-push (λ before d. held_after (clock_with (clock before) d.call) (events_at before d)) [] [] h e
+
 -- all webhook events, and then those of the entry
 pub hook_list-push : (h : ChanHistory) (e : ChanEntry) → hook_list (h ++ e ∷ []) ≡ hook_list h ++ hooks h e
 hook_list-push h e = gathered-push (λ d. false) hooks [] h e
 
--- the pending ones, and then those of the entry; or none, after a TakeHooks
-pub pending-push : (h : ChanHistory) (e : ChanEntry) → pending (h ++ e ∷ []) ≡ cond (is_take_hooks e.call) [] (pending h ++ hooks h e)
-pending-push h e = gathered-push (λ d. is_take_hooks d.call) hooks [] h e
+-- those since the last TakeHooks, and then those of the entry; or none, after a TakeHooks
+pub since_take-push : (h : ChanHistory) (e : ChanEntry) → since_take (h ++ e ∷ []) ≡ cond (is_take_hooks e.call) [] (since_take h ++ hooks h e)
+since_take-push h e = gathered-push (λ d. is_take_hooks d.call) hooks [] h e

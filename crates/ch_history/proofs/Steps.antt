@@ -2,7 +2,7 @@
 use Rattle.std.proofs.Common.{◌≡◌, Bool, true, false, not, ◌||◌, cond, List, [], ◌∷◌, ◌++◌, Option, Some, None, filter, option_to_list, refl, ap, sym, ◌∙◌, subst, append_assoc, append-nil}
 use Rattle.std.specs.List.{list_any, cons_option}
 use Rattle.std.proofs.lemmas.List.Folds.{list_any-append}
-use Rattle.ch_history.specs.Steps.{gathered, gathered_from, AllHold}
+use Rattle.ch_history.specs.Steps.{gathered, gathered_from, folded, AllHold}
 use Rattle.ch_history.specs.OpenRows.{unsettled, open_rows, rows_after}
 
 -- Rows
@@ -81,6 +81,12 @@ gathered_from-push starts f h (d ∷ later) e =
       ])
     ])
 
+-- what f makes of the steps before, and then of this one
+pub folded-push : {S A : Type 0} (f : List S → S → A → A) (a : A) (h later : List S) (e : S) → folded f a h (later ++ e ∷ []) ≡ f (h ++ later) e (folded f a h later)
+folded-push f a h [] e = ap (λ g. f g e a) (sym (append-nil h))
+folded-push f a h (d ∷ later) e =
+    folded-push f (f h d a) (h ++ d ∷ []) later e ∙ ap (λ g. f g e (folded f (f h d a) (h ++ d ∷ []) later)) (append_assoc h (d ∷ []) later)
+
 -- What holds of every step
 
 pub AllHold-all : {S : Type 0} (holds : List S → S → Type 0) → ((h : List S) (e : S) → holds h e) → (h later : List S) → AllHold holds h later
@@ -110,3 +116,7 @@ run holds P more h (e ∷ later) all here rest =
 -- what is true of no steps, and with each further one that holds, is true of all lists of which every step holds
 pub history_induction : {S : Type 0} (holds : List S → S → Type 0) (P : List S → Type 0) → P [] → ((h : List S) (e : S) → AllHold holds [] h → holds h e → P h → P (h ++ e ∷ [])) → (h : List S) → AllHold holds [] h → P h
 history_induction holds P none more h all = run holds P more [] h tt none all
+
+-- what is true of no steps, and with each further one, is true of all lists of steps
+pub steps_induction : {S : Type 0} (P : List S → Type 0) → P [] → ((h : List S) (e : S) → P h → P (h ++ e ∷ [])) → (h : List S) → P h
+steps_induction P none more h = history_induction (λ g e. Unit {0}) P none (λ g e all step so. more g e so) h (AllHold-all (λ g e. Unit {0}) (λ g e. tt) [] h)
