@@ -1,11 +1,9 @@
--- The webhook events that wait for the next take, the vacated notices that are held back, and for how many more there
--- is room.
-use Rattle.std.specs.Prelude.{◌≡◌, ℕ, Bool, not, ◌+◌, ◌++◌, ◌∷◌, [], List, bytes_eq, filter}
-use Rattle.std.specs.List.{list_any}
+-- The webhook events that wait for the next take, the vacated notices that are held, and for how many more there is room.
+use Rattle.std.specs.Prelude.{◌≡◌, ℕ, not, ◌+◌, ◌++◌, ◌∷◌, [], List, bytes_eq, filter}
 use Rattle.ch_base.specs.declared.webhook.Hook.{Hook}
-use Rattle.ch_hooklog.specs.declared.held_notice.HeldNotice.{HeldNotice}
+use Rattle.ch_history.specs.declared.rows.HeldNotice.{HeldNotice}
 
--- the events since the last take, the oldest first, what is held, and the spare room
+-- the events since the last take, the oldest first, the notices that are held, and the spare room
 pub record Logged : Type 0 where
   pub hooks : List Hook
   pub held : List HeldNotice
@@ -17,14 +15,6 @@ pub record Puts (old new : Logged) (hook : Hook) : Type 0 where
   pub held : new.held ≡ old.held
   pub spare : new.spare + 1 ≡ old.spare
 
--- whether this is a notice of the channel c
-abbrev pub is_of : List ℕ → HeldNotice → Bool
-is_of c n = bytes_eq n.channel c
-
--- whether a notice of the channel c is held
-abbrev pub is_held : List HeldNotice → List ℕ → Bool
-is_held held c = list_any (is_of c) held
-
--- what is held without the channel c
+-- the notices of other channels
 abbrev pub without : List HeldNotice → List ℕ → List HeldNotice
-without held c = filter (λ n. not (is_of c n)) held
+without notices c = filter (λ notice. not (bytes_eq notice.channel c)) notices

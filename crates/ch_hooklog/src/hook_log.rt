@@ -1,10 +1,11 @@
-ghost use Rattle.std.specs.Prelude.{◌≡◌, ◌+◌, ◌<◌, ◌≤◌, [], ◌∷◌, ◌++◌, All, OnOk, length, map, nat_le, vec_len, vec_capacity};
+ghost use Rattle.std.specs.Prelude.{◌≡◌, ◌+◌, ◌<◌, ◌≤◌, [], ◌∷◌, ◌++◌, All, OnOk, length, nat_le, vec_len, vec_capacity};
 ghost use Rattle.std.specs.VecDeque.{deque_len, deque_capacity};
-ghost use Rattle.ch_hooklog.specs.Held.{is_due, due, not_due, vacated_of};
-ghost use Rattle.ch_hooklog.specs.HookLog.{is_of};
+ghost use Rattle.ch_history.specs.declared.limits.TheConstants.{HELD_FOR};
+ghost use Rattle.ch_history.specs.Held.{due, not_due, has_notice, vacated_events};
+ghost use Rattle.ch_hooklog.specs.HookLog.{without};
 
-use crate::held_notice::{HELD_FOR, HeldNotice};
 use ch_base::{Hook, HookList, Memory, Text};
+use ch_history::{HELD_FOR, HeldNotice};
 use std::alloc::Global;
 use std::collections::VecDeque;
 use std::marker::Model;
@@ -39,7 +40,7 @@ impl Model for HookLog {
 }
 
 impl HookLog {
-    ghost use Rattle.ch_hooklog.specs.HookLog.{Puts, is_held, without};
+    ghost use Rattle.ch_hooklog.specs.HookLog.{Puts};
 
     /// A log in which nothing waits or is held. It takes no memory.
     pub fn new(alloc: Global) -> HookLog
@@ -102,7 +103,7 @@ impl HookLog {
 
     /// Drops the channel's notice where one is held, and answers whether one was. It takes no memory.
     pub fn cancel(&mut self, channel: &Text) -> bool
-        ensures answer { result ≡ is_held self.old.held channel.now }
+        ensures answer { result ≡ has_notice self.old.held channel.now }
         ensures hooks { self.new.hooks ≡ self.old.hooks }
         ensures held { self.new.held ≡ without self.old.held channel.now }
         ensures spare { self.new.spare ≡ self.old.spare }
@@ -114,7 +115,7 @@ impl HookLog {
 
     /// How many of the held notices are due at this moment, in milliseconds.
     pub fn due(&self, now: u64) -> u64
-        ensures { result ≡ length (due self.now.held now) }
+        ensures { result ≡ length (due now self.now.held) }
     {
         if !is_due(self.oldest, now) {
             return 0;
@@ -124,10 +125,10 @@ impl HookLog {
 
     /// Moves the notices that are due at this moment to the end of the log, in order. It takes no memory.
     pub fn release(&mut self, now: u64)
-        requires { length (due self.old.held now) ≤ self.old.spare }
-        ensures hooks { self.new.hooks ≡ self.old.hooks ++ map vacated_of (due self.old.held now) }
-        ensures held { self.new.held ≡ not_due self.old.held now }
-        ensures spare { self.new.spare + length (due self.old.held now) ≡ self.old.spare }
+        requires { length (due now self.old.held) ≤ self.old.spare }
+        ensures hooks { self.new.hooks ≡ self.old.hooks ++ vacated_events (due now self.old.held) }
+        ensures held { self.new.held ≡ not_due now self.old.held }
+        ensures spare { self.new.spare + length (due now self.old.held) ≡ self.old.spare }
     {
         if !is_due(self.oldest, now) {
             return;
@@ -148,8 +149,6 @@ impl HookLog {
     }
 }
 
-ghost use Rattle.ch_hooklog.specs.HookLog.{is_held, without};
-
 /// Whether a notice held since then is due now.
 fn is_due(since: u64, now: u64) -> bool
     ensures { result ≡ nat_le (since + HELD_FOR) now }
@@ -159,7 +158,7 @@ fn is_due(since: u64, now: u64) -> bool
 
 /// Whether a notice of the channel is held.
 fn is_held(held: &VecDeque<HeldNotice>, channel: &Text) -> bool
-    ensures { result ≡ is_held held.now.items channel.now }
+    ensures { result ≡ has_notice held.now.items channel.now }
 {
     held.iter().any(|notice| notice.channel == *channel)
 }
@@ -175,9 +174,11 @@ fn forget(held: &mut VecDeque<HeldNotice>, channel: &Text)
 
 /// How many of the held notices are due.
 fn count_due(held: &VecDeque<HeldNotice>, now: u64) -> u64
-    ensures { result ≡ length (due held.now.items now) }
+    ensures { result ≡ length (due now held.now.items) }
 {
-    held.iter().filter(|notice| is_due(notice.since, now)).count() as u64
+    held.iter()
+        .filter(|notice| is_due(notice.since, now))
+        .count() as u64
 }
 
 /// Moves the notices that are due to the end of the log, in order, and answers a moment that none of the others is
@@ -185,18 +186,20 @@ fn count_due(held: &VecDeque<HeldNotice>, now: u64) -> u64
 ///
 /// What is held goes round once: each notice is taken from the front, and comes back at the end where it isn't due.
 fn move_due(held: &mut VecDeque<HeldNotice>, hooks: &mut Vec<Hook>, now: u64) -> u64
-    requires { vec_len hooks.old + length (due held.old.items now) ≤ vec_capacity hooks.old }
-    ensures hooks { hooks.new.items ≡ hooks.old.items ++ map vacated_of (due held.old.items now) }
+    requires { vec_len hooks.old + length (due now held.old.items) ≤ vec_capacity hooks.old }
+    ensures hooks { hooks.new.items ≡ hooks.old.items ++ vacated_events (due now held.old.items) }
+    ensures len { vec_len hooks.new ≡ vec_len hooks.old + length (due now held.old.items) }
     ensures room { vec_capacity hooks.new ≡ vec_capacity hooks.old }
-    ensures held { held.new.items ≡ not_due held.old.items now }
-    ensures capacity { deque_capacity held.new ≡ deque_capacity held.old }
+    ensures held { held.new.items ≡ not_due now held.old.items }
+    ensures held_len { deque_len held.new ≤ deque_len held.old }
+    ensures held_room { deque_capacity held.new ≡ deque_capacity held.old }
     ensures oldest { All (λ n. result ≤ n.since) held.new.items }
 {
     let mut oldest = now;
     for _ in 0..held.len() {
         let notice = match held.pop_front() {
             Some(notice) => notice,
-            None => break,
+            None => unreachable!(),
         };
         if is_due(notice.since, now) {
             hooks.push_reserved(Hook::Vacated {

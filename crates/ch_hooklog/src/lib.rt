@@ -6,8 +6,6 @@
 //! order in which they came, and for how many more there is room. Only `reserve` takes memory.
 #![tactic(auto)]
 
-mod held_notice;
 mod hook_log;
 
-pub use held_notice::{HELD_FOR, HeldNotice};
 pub use hook_log::HookLog;
