@@ -1,8 +1,9 @@
 ghost use Rattle.std.specs.Prelude.{◌≡◌, ◌+◌, ◌<◌, ◌≤◌, [], ◌∷◌, ◌++◌, All, OnOk, length, nat_le, vec_len, vec_capacity};
 ghost use Rattle.std.specs.VecDeque.{deque_len, deque_capacity};
 ghost use Rattle.ch_history.specs.declared.limits.TheConstants.{HELD_FOR};
-ghost use Rattle.ch_history.specs.Held.{due, not_due, has_notice, vacated_events};
+ghost use Rattle.ch_history.specs.Held.{due, not_due, has_notice, vacated_events, held_after, hooks_after};
 ghost use Rattle.ch_hooklog.specs.HookLog.{without};
+ghost use Rattle.ch_hooklog.specs.Noting.{logged_by, held_by};
 
 use ch_base::{Hook, HookList, Memory, Text};
 use ch_history::{HELD_FOR, HeldNotice};
@@ -40,7 +41,7 @@ impl Model for HookLog {
 }
 
 impl HookLog {
-    ghost use Rattle.ch_hooklog.specs.HookLog.{Puts};
+    ghost use Rattle.ch_hooklog.specs.HookLog.{Puts, Notes, IsOfOneCall};
 
     /// A log in which nothing waits or is held. It takes no memory.
     pub fn new(alloc: Global) -> HookLog
@@ -113,6 +114,35 @@ impl HookLog {
         is_held
     }
 
+    /// Notes one event at this moment, in milliseconds. A Vacated is held, an Occupied of a channel whose notice is
+    /// held ends that notice instead, and every other event is added at the end. It takes no memory.
+    pub fn note(&mut self, hook: Hook, now: u64)
+        requires { 0 < self.old.spare }
+        ensures { Notes self.old self.new now hook }
+    {
+        match hook {
+            Hook::Occupied { channel } => {
+                if !self.cancel(&channel) {
+                    self.put(Hook::Occupied { channel });
+                }
+            }
+            Hook::Vacated { channel } => self.hold(channel, now),
+            other => self.put(other),
+        }
+    }
+
+    /// Makes the events of one call at this moment, in milliseconds: the notices that are due by then, and after
+    /// them the events, in order. It takes no memory.
+    pub fn make(&mut self, hooks: Vec<Hook>, now: u64)
+        requires room { vec_len hooks + length (due now self.old.held) ≤ self.old.spare }
+        requires call { IsOfOneCall hooks.items }
+        ensures hooks { self.new.hooks ≡ self.old.hooks ++ hooks_after now hooks.items self.old.held }
+        ensures held { self.new.held ≡ held_after now hooks.items self.old.held }
+    {
+        self.release(now);
+        note_all(self, hooks, now);
+    }
+
     /// How many of the held notices are due at this moment, in milliseconds.
     pub fn due(&self, now: u64) -> u64
         ensures { result ≡ length (due now self.now.held) }
@@ -146,6 +176,18 @@ impl HookLog {
         let taken = mem::replace(&mut self.hooks, Vec::new(self.alloc));
         self.spare = 0;
         HookList::from_vec(taken)
+    }
+}
+
+/// Notes the events in order.
+fn note_all(log: &mut HookLog, mut hooks: Vec<Hook>, now: u64)
+    requires { vec_len hooks ≤ log.old.spare }
+    ensures hooks { log.new.hooks ≡ log.old.hooks ++ logged_by now hooks.items log.old.held }
+    ensures held { log.new.held ≡ held_by now hooks.items log.old.held }
+{
+    hooks.reverse();
+    while let Some(hook) = hooks.pop() {
+        log.note(hook, now);
     }
 }
 
