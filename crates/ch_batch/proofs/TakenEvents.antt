@@ -19,10 +19,12 @@ use Rattle.ch_history.specs.Frames.{waiting}
 use Rattle.ch_history.specs.Legal.{Follows, IsLegal}
 use Rattle.ch_history.specs.Steps.{AllHold}
 use Rattle.ch_history.specs.Subscriptions.{is_on, on_channel, subscriptions}
-use Rattle.ch_history.specs.Webhooks.{hook_list, hooks, is_take_hooks, pending}
+use Rattle.ch_history.specs.Held.{hooks}
+use Rattle.ch_history.specs.Pending.{hook_list, is_take_hooks, pending, since_take}
 use Rattle.ch_history.specs.declared.rows.Subscription.{Subscription}
 use Rattle.ch_history.proofs.Legal.{legal_induction}
-use Rattle.ch_history.proofs.Push.{hook_list-push, pending-push}
+use Rattle.ch_history.proofs.Held.{pending-take}
+use Rattle.ch_history.proofs.Push.{hook_list-push, since_take-push}
 use Rattle.ch_desk.specs.OwnEntries.{entries_by}
 use Rattle.ch_batch.specs.Gathers.{events_in}
 
@@ -52,7 +54,7 @@ no_events xs kept mine log (Look c at) other = refl
 no_events xs kept mine log (Users c) other = refl
 
 silent : (h : ChanHistory) (w : ℕ) (call : ChanCall) (a : ChanAnswer) → a ≡ answer_of h w call → is_take_hooks call ≡ false → events_in a ≡ []
-silent h w call a is other = ap events_in is ∙ no_events (subscriptions h) (latest_row h call) (waiting h w) (pending h) call other
+silent h w call a is other = ap events_in is ∙ no_events (subscriptions h) (latest_row h call) (waiting h w) (pending h call) call other
 
 -- no entry has events but a TakeHooks
 abbrev pub AreSilent : ChanHistory → Type 0
@@ -76,20 +78,25 @@ silent_more (x ∷ xs) ys all = silent_more xs ys all.1
 
 -- ---- what was taken, and what waits
 
-others_turn : (h : ChanHistory) (w : ℕ) (call : ChanCall) (a : ChanAnswer) → a ≡ answer_of h w call → is_take_hooks call ≡ false → taken_in h ++ pending h ≡ hook_list h
-    → (taken_in h ++ events_in a) ++ cond (is_take_hooks call) [] (pending h ++ hooks h (entry w call a)) ≡ hook_list h ++ hooks h (entry w call a)
+others_turn : (h : ChanHistory) (w : ℕ) (call : ChanCall) (a : ChanAnswer) → a ≡ answer_of h w call → is_take_hooks call ≡ false → taken_in h ++ since_take h ≡ hook_list h
+    → (taken_in h ++ events_in a) ++ cond (is_take_hooks call) [] (since_take h ++ hooks h (entry w call a)) ≡ hook_list h ++ hooks h (entry w call a)
 others_turn h w call a is other so =
     let made : List Hook = hooks h (entry w call a) in
-    ap (λ t. (taken_in h ++ events_in a) ++ cond t [] (pending h ++ made)) other
-    ∙ ap (λ (z : List Hook). (taken_in h ++ z) ++ (pending h ++ made)) (silent h w call a is other)
-    ∙ ap (λ (z : List Hook). z ++ (pending h ++ made)) (append-nil (taken_in h))
-    ∙ sym (append_assoc (taken_in h) (pending h) made)
+    ap (λ t. (taken_in h ++ events_in a) ++ cond t [] (since_take h ++ made)) other
+    ∙ ap (λ (z : List Hook). (taken_in h ++ z) ++ (since_take h ++ made)) (silent h w call a is other)
+    ∙ ap (λ (z : List Hook). z ++ (since_take h ++ made)) (append-nil (taken_in h))
+    ∙ sym (append_assoc (taken_in h) (since_take h) made)
     ∙ ap (λ (z : List Hook). z ++ made) so
 
-turn : (h : ChanHistory) (w : ℕ) (call : ChanCall) (a : ChanAnswer) → a ≡ answer_of h w call → taken_in h ++ pending h ≡ hook_list h
-    → (taken_in h ++ events_in a) ++ cond (is_take_hooks call) [] (pending h ++ hooks h (entry w call a)) ≡ hook_list h ++ hooks h (entry w call a)
+turn : (h : ChanHistory) (w : ℕ) (call : ChanCall) (a : ChanAnswer) → a ≡ answer_of h w call → taken_in h ++ since_take h ≡ hook_list h
+    → (taken_in h ++ events_in a) ++ cond (is_take_hooks call) [] (since_take h ++ hooks h (entry w call a)) ≡ hook_list h ++ hooks h (entry w call a)
 turn h w (TakeHooks at) a is so =
-    ap (λ (z : ChanAnswer). (taken_in h ++ events_in z) ++ []) is ∙ append-nil (taken_in h ++ pending h) ∙ so ∙ sym (append-nil (hook_list h))
+    let made : List Hook = hooks h (entry w (TakeHooks at) a) in
+    ap (λ (z : ChanAnswer). (taken_in h ++ events_in z) ++ []) is
+    ∙ append-nil (taken_in h ++ pending h (TakeHooks at))
+    ∙ ap (λ (z : List Hook). taken_in h ++ z) (pending-take h w at a)
+    ∙ sym (append_assoc (taken_in h) (since_take h) made)
+    ∙ ap (λ (z : List Hook). z ++ made) so
 turn h w (Join socket c member at) a is so = others_turn h w (Join socket c member at) a is refl so
 turn h w (Leave socket c at) a is so = others_turn h w (Leave socket c at) a is refl so
 turn h w (Lost socket at) a is so = others_turn h w (Lost socket at) a is refl so
@@ -100,12 +107,12 @@ turn h w (Names prefix) a is so = others_turn h w (Names prefix) a is refl so
 turn h w (Look c at) a is so = others_turn h w (Look c at) a is refl so
 turn h w (Users c) a is so = others_turn h w (Users c) a is refl so
 
-pub taken_and_pending : (h : ChanHistory) → IsLegal h → taken_in h ++ pending h ≡ hook_list h
-taken_and_pending h legal =
-    legal_induction (λ g. taken_in g ++ pending g ≡ hook_list g) refl
+pub taken_and_waiting : (h : ChanHistory) → IsLegal h → taken_in h ++ since_take h ≡ hook_list h
+taken_and_waiting h legal =
+    legal_induction (λ g. taken_in g ++ since_take g ≡ hook_list g) refl
     (λ g e ok follows so.
-    ap (λ (z : List Hook). z ++ pending (g ++ e ∷ [])) (taken_in_both g (e ∷ []) ∙ ap (λ (z : List Hook). taken_in g ++ z) (append-nil (events_in e.answer)))
-    ∙ ap (λ (z : List Hook). (taken_in g ++ events_in e.answer) ++ z) (pending-push g e)
+    ap (λ (z : List Hook). z ++ since_take (g ++ e ∷ [])) (taken_in_both g (e ∷ []) ∙ ap (λ (z : List Hook). taken_in g ++ z) (append-nil (events_in e.answer)))
+    ∙ ap (λ (z : List Hook). (taken_in g ++ events_in e.answer) ++ z) (since_take-push g e)
     ∙ turn g e.caller e.call e.answer follows.answered so
     ∙ sym (hook_list-push g e))
     h legal

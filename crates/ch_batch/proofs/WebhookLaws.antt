@@ -5,9 +5,9 @@ use Rattle.std.proofs.lemmas.Bool.{cases_eq, eq-eqb, ne_eqb, cond-true, cond-fal
 use Rattle.std.proofs.lemmas.List.Elements.{All-head, All-tail}
 use Rattle.ch_base.specs.declared.webhook.Hook.{Hook}
 use Rattle.ch_history.specs.Entries.{ChanEntry, ChanHistory}
-use Rattle.ch_history.specs.Laws.{Goes, is_occupied}
+use Rattle.ch_history.specs.Laws.{Goes, counts_occupied}
 use Rattle.ch_history.specs.Placement.{fnv_from, fnv_offset, shard_of}
-use Rattle.ch_history.specs.Webhooks.{hook_list, is_take_hooks, pending}
+use Rattle.ch_history.specs.Pending.{hook_list, is_take_hooks, since_take}
 use Rattle.ch_history.proofs.Occupancy.{occupancy_law}
 use Rattle.ch_protocol.specs.Asks.{Asked, asks_of}
 use Rattle.ch_protocol.specs.declared.ask.Ask.{Ask}
@@ -22,7 +22,7 @@ use Rattle.ch_batch.specs.Gathers.{events_in, events_of, taken}
 use Rattle.ch_batch.specs.Laws.{TakesAlone, WebhooksLaw, events_from, events_in_all, taken_from}
 use Rattle.ch_batch.proofs.BatchLaws.{batches_law}
 use Rattle.ch_batch.proofs.OtherShards.{marks, marks_both, none_elsewhere}
-use Rattle.ch_batch.proofs.TakenEvents.{AreSilent, legal_silent, none_taken, own_taken, silent_front, silent_more, taken_and_pending, taken_in, taken_in_both}
+use Rattle.ch_batch.proofs.TakenEvents.{AreSilent, legal_silent, none_taken, own_taken, silent_front, silent_more, taken_and_waiting, taken_in, taken_in_both}
 
 -- ---- one shard
 
@@ -52,7 +52,7 @@ own_entries w k (x ∷ asked) =
     ∙ ap₂ (λ (xs ys : List Hook). xs ++ ys) (one_entry w k x.ask x.came) (own_entries w k asked)
 
 of_one_shard : (asked : List Asked) (old new : DeskView) (k : ℕ) → Makes asked old new → IsLegalDesk new → TakesAlone old new → k < old.chan_shards → k < new.chan_shards
-    → taken_from k asked ++ pending (new.chans k) ≡ hook_list (new.chans k)
+    → taken_from k asked ++ since_take (new.chans k) ≡ hook_list (new.chans k)
 of_one_shard asked old new k calls legal alone inside here =
     let w : ℕ = old.caller in
     let h : ChanHistory = old.chans k in
@@ -67,7 +67,7 @@ of_one_shard asked old new k calls legal alone inside here =
     ap taken_in is ∙ taken_in_both h more
     ∙ ap₂ (λ (xs ys : List Hook). xs ++ ys) (none_taken h (silent_front h more quiet) (alone.before k inside)) (own_taken w more (silent_more h more quiet) only)
     ∙ ap taken_in gains.2 ∙ own_entries w k asked in
-    ap (λ (z : List Hook). z ++ pending (new.chans k)) (sym whole) ∙ taken_and_pending (new.chans k) (legal.chans k here).legal
+    ap (λ (z : List Hook). z ++ since_take (new.chans k)) (sym whole) ∙ taken_and_waiting (new.chans k) (legal.chans k here).legal
 
 -- ---- one channel
 
@@ -121,7 +121,7 @@ webhooks_law sender asked deeds old new now some collects legal alone =
     let same : new.chan_shards ≡ old.chan_shards = calls.same.chan_shards in
     let law = batches_law sender deeds in
     let all : events_in_all (made_of (nothing_yet sender) deeds) ++ (after_all (nothing_yet sender) deeds).uncut ≡ taken asked = law.events ∙ collects.events in
-    let shards : (k : ℕ) → k < n → taken_from k asked ++ pending (new.chans k) ≡ hook_list (new.chans k) =
+    let shards : (k : ℕ) → k < n → taken_from k asked ++ since_take (new.chans k) ≡ hook_list (new.chans k) =
     λ k here. of_one_shard asked old new k calls legal alone (subst (λ m. k < m) same here) here in
     record {
       taken = all;
@@ -131,14 +131,14 @@ webhooks_law sender asked deeds old new now some collects legal alone =
           let here : k < n = mod-lt (fnv_from fnv_offset c) (subst (λ m. 1 ≤ m) (sym same) some) in
           let h : ChanHistory = new.chans k in
           let others : IsAlone c k n asked = λ j below other.
-          first_nothing (marks c (taken_from j asked)) (marks c (pending (new.chans j)))
-          (sym (marks_both c (taken_from j asked) (pending (new.chans j))) ∙ ap (marks c) (shards j below)
+          first_nothing (marks c (taken_from j asked)) (marks c (since_take (new.chans j)))
+          (sym (marks_both c (taken_from j asked) (since_take (new.chans j))) ∙ ap (marks c) (shards j below)
           ∙ (none_elsewhere (new.chans j) j n c (λ e. other (sym e)) (legal.chans j below)).untold) in
-          let are : marks c (events_in_all (made_of (nothing_yet sender) deeds) ++ (after_all (nothing_yet sender) deeds).uncut ++ pending h) ≡ marks c (hook_list h) =
-          ap (λ (z : List Hook). marks c (z ++ pending h)) all
-          ∙ marks_both c (taken asked) (pending h)
-          ∙ ap (λ (z : List Bool). z ++ marks c (pending h)) (one_channel c k n old asked same calls.may others)
-          ∙ sym (marks_both c (taken_from k asked) (pending h))
+          let are : marks c (events_in_all (made_of (nothing_yet sender) deeds) ++ (after_all (nothing_yet sender) deeds).uncut ++ since_take h) ≡ marks c (hook_list h) =
+          ap (λ (z : List Hook). marks c (z ++ since_take h)) all
+          ∙ marks_both c (taken asked) (since_take h)
+          ∙ ap (λ (z : List Bool). z ++ marks c (since_take h)) (one_channel c k n old asked same calls.may others)
+          ∙ sym (marks_both c (taken_from k asked) (since_take h))
           ∙ ap (marks c) (shards k here) in
-          subst (λ (ms : List Bool). Goes false (is_occupied h c) ms) (sym are) (occupancy_law h (legal.chans k here).legal c);
+          subst (λ (ms : List Bool). Goes false (counts_occupied h c) ms) (sym are) (occupancy_law h (legal.chans k here).legal c);
     }

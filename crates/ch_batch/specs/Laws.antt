@@ -3,9 +3,9 @@ use Rattle.std.specs.Prelude.{◌≡◌, ℕ, ◌≤◌, ◌<◌, ◌==◌, true
 use Rattle.std.specs.List.{range_with_len}
 use Rattle.ch_base.specs.declared.memory.Memory.{Memory}
 use Rattle.ch_base.specs.declared.webhook.Hook.{Hook}
-use Rattle.ch_history.specs.Laws.{Goes, is_occupied, occupancy}
+use Rattle.ch_history.specs.Laws.{Goes, counts_occupied, occupancy}
 use Rattle.ch_history.specs.Placement.{shard_of}
-use Rattle.ch_history.specs.Webhooks.{is_take_hooks, hook_list, pending}
+use Rattle.ch_history.specs.Pending.{is_take_hooks, hook_list, since_take}
 use Rattle.ch_protocol.specs.Asks.{Asked}
 use Rattle.ch_protocol.specs.declared.ask.Ask.{Ask}
 use Rattle.ch_protocol.specs.declared.ask.Ask.TheVariants.{Chan}
@@ -82,12 +82,12 @@ pub record TellsHistories (sender : Sender) (asked : List Asked) (deeds : List D
   -- the events of all batches, and those that aren't cut yet, are those that were taken
   pub taken : events_in_all (made (nothing_yet sender) deeds) ++ (after_all (nothing_yet sender) deeds).uncut ≡ taken asked
   -- what was taken from a shard, and what waits there, are all events of its history, each once
-  pub shards : (k : ℕ) → k < new.chan_shards → taken_from k asked ++ pending (new.chans k) ≡ hook_list (new.chans k)
+  pub shards : (k : ℕ) → k < new.chan_shards → taken_from k asked ++ since_take (new.chans k) ≡ hook_list (new.chans k)
   -- Occupied and Vacated of a channel alternate over all batches, what isn't cut yet and what waits on the channel's shard, and
-  -- end at whether a socket is subscribed
-  pub occupancy : (c : List ℕ) → Goes false (is_occupied (new.chans (shard_of c new.chan_shards)) c)
+  -- end at whether a socket is subscribed or the channel's vacated notice is held
+  pub occupancy : (c : List ℕ) → Goes false (counts_occupied (new.chans (shard_of c new.chan_shards)) c)
       (filter_map (occupancy c) (events_in_all (made (nothing_yet sender) deeds) ++ (after_all (nothing_yet sender) deeds).uncut
-      ++ pending (new.chans (shard_of c new.chan_shards))))
+      ++ since_take (new.chans (shard_of c new.chan_shards))))
 
 -- the law of webhooks
 abbrev pub WebhooksLaw : Type 0

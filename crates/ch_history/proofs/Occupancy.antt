@@ -16,13 +16,13 @@ use Rattle.ch_history.specs.Clock.{clock_with, clock}
 use Rattle.ch_history.specs.Held.{is_due, held, hooks}
 use Rattle.ch_history.specs.OpenRows.{is_empty}
 use Rattle.ch_history.specs.Legal.{IsLegal}
-use Rattle.ch_history.specs.Laws.{Goes, is_occupied, occupancy, counts_occupied, OccupancyAlternates, IsHeldOnce}
+use Rattle.ch_history.specs.Laws.{Goes, is_occupied, occupancy, counts_occupied, OccupancyAlternates, IsHeldOnce, HoldsNotices}
 use Rattle.ch_history.proofs.Lists.{filter_map-filter, not_empty, is_empty-push}
 use Rattle.ch_history.proofs.Texts.{text_itself}
 use Rattle.ch_history.proofs.Legal.{legal_induction}
 use Rattle.ch_history.proofs.Push.{held-push}
 use Rattle.ch_history.proofs.Marks.{Goes-same, hooks_go}
-use Rattle.ch_history.proofs.Held.{marks, notices_of, notices_after, marks_after, held-of, made-of, is_held-of}
+use Rattle.ch_history.proofs.Held.{marks, notices_of, notices_after, marks_after, due-held, held-of, made-of, is_held-of}
 use Rattle.ch_history.proofs.Change.{Change, same, opens, ends, change, concerns, about}
 
 -- an event that doesn't concern the channel says nothing of it
@@ -32,7 +32,7 @@ unconcerned c (hook.Vacated d) differs = ap (λ b. cond b (Some false) None) dif
 unconcerned c _ differs = refl
 
 -- events that are the same about the channel have the same marks
-marks-about : (c : List ℕ) (xs ys : List Hook) → about c xs ≡ about c ys → marks c xs ≡ marks c ys
+pub marks-about : (c : List ℕ) (xs ys : List Hook) → about c xs ≡ about c ys → marks c xs ≡ marks c ys
 marks-about c xs ys alike =
     sym (filter_map-filter (occupancy c) (concerns c) xs (unconcerned c))
     ∙ ap (marks c) alike
@@ -187,5 +187,5 @@ once h c (nothing none) = record {
 }
 once h c (one n is vacant) = record { vacant = λ held. vacant; once = subst (λ ns. length ns ≤ 1) (sym is) (omega arith) }
 
-pub held_law : (h : ChanHistory) → IsLegal h → (c : List ℕ) → IsHeldOnce h c
-held_law h legal c = once h c (held_state h legal c)
+pub held_law : (h : ChanHistory) → IsLegal h → HoldsNotices h
+held_law h legal = record { none_due = due-held h; each = λ c. once h c (held_state h legal c) }

@@ -14,7 +14,8 @@ use Rattle.ch_history.specs.Subscriptions.{is_joined, subs}
 use Rattle.ch_history.specs.Presence.{has_user}
 use Rattle.ch_history.specs.Frames.{frames}
 use Rattle.ch_history.specs.Pending.{hook_list}
-use Rattle.ch_history.specs.Held.{is_held, held}
+use Rattle.ch_history.specs.Clock.{clock}
+use Rattle.ch_history.specs.Held.{due, is_held, held}
 use Rattle.ch_history.specs.OpenRows.{is_empty}
 use Rattle.ch_history.specs.Legal.{IsLegal}
 
@@ -65,9 +66,15 @@ pub record IsHeldOnce (h : ChanHistory) (c : List ℕ) : Type 0 where
   pub vacant : IsTrue (is_held h c) → is_occupied h c ≡ false
   pub once : length (filter (λ notice. bytes_eq notice.channel c) (held h)) ≤ 1
 
+-- no notice that is held is due at the shard's clock, so a channel counts as occupied for less than 3,000 ms after its last
+-- subscription ended
+pub record HoldsNotices (h : ChanHistory) : Type 0 where
+  pub none_due : due (clock h) (held h) ≡ []
+  pub each : (c : List ℕ) → IsHeldOnce h c
+
 -- the law of held notices
 abbrev pub HeldLaw : Type 0
-HeldLaw = (h : ChanHistory) → IsLegal h → (c : List ℕ) → IsHeldOnce h c
+HeldLaw = (h : ChanHistory) → IsLegal h → HoldsNotices h
 
 -- Membership
 

@@ -7,7 +7,8 @@ pub fn occupancy_alternates()
     ensures { OccupancyLaw }
 {}
 
-/// A channel whose vacated notice is held has no subscription, and is held once.
+/// A channel whose vacated notice is held has no subscription, and is held once; no notice that is held
+/// is due.
 pub fn held_channels_are_vacant()
     ensures { HeldLaw }
 {}

@@ -29,7 +29,7 @@ use Rattle.ch_history.specs.Subscriptions.{is_on, on_channel, subscriptions}
 use Rattle.ch_history.specs.UserAnswers.{user_answer_by}
 use Rattle.ch_history.specs.UserFrames.{user_waiting}
 use Rattle.ch_history.specs.UserLegal.{IsUserLegal}
-use Rattle.ch_history.specs.Webhooks.{pending}
+use Rattle.ch_history.specs.Pending.{pending}
 use Rattle.ch_history.proofs.Legal.{IsLegal-last}
 use Rattle.ch_history.proofs.UserLegal.{IsUserLegal-last}
 
@@ -68,7 +68,7 @@ pub answer_kind : (place : ℕ × ℕ) (caller : ℕ) (call : ChanCall) (r : Res
 answer_kind place caller call (Ok a) before after grows legal =
     let h = before ++ grows.0 in
     let last = IsLegal-last h (entry caller call a) (subst IsLegal grows.2 legal.legal) in
-    subst (IsAnswerTo call) (sym last.answered) (answer_fits (subscriptions h) (latest_row h call) (waiting h caller) (pending h) call)
+    subst (IsAnswerTo call) (sym last.answered) (answer_fits (subscriptions h) (latest_row h call) (waiting h caller) (pending h call) call)
 answer_kind place caller call (Err m) before after grows legal = tt
 
 -- User shards

@@ -8,7 +8,7 @@ use Rattle.ch_base.specs.declared.webhook.Hook.{Hook}
 use Rattle.ch_config.specs.declared.config.Config.{Config}
 use Rattle.ch_history.specs.Alone.{with_call}
 use Rattle.ch_history.specs.Entries.{ChanHistory}
-use Rattle.ch_history.specs.Webhooks.{pending}
+use Rattle.ch_history.specs.Pending.{pending}
 use Rattle.ch_protocol.specs.Asks.{Asked, asks_of, came_of}
 use Rattle.ch_protocol.specs.Shards.{Shards, after_ask, after_asks, calls, made_of, made_of_all}
 use Rattle.ch_protocol.specs.declared.ask.Ask.{Ask}
@@ -58,13 +58,14 @@ other_shard shards at a k above =
 same_shard : (shards : Shards) (at a : ℕ) → (calls shards a (TakeHooks at)).chans a ≡ with_call (shards.chans a) (TakeHooks at)
 same_shard shards at a = cond-true (a == a) (with_call (shards.chans a) (TakeHooks at)) (shards.chans a) (eq-eqb a a refl)
 
-events_are : (at a n : ℕ) (shards : Shards) → made_events shards (takes_from at a n) ≡ flat_map (λ k. pending (shards.chans k)) (range_with_len a n)
+events_are : (at a n : ℕ) (shards : Shards) → made_events shards (takes_from at a n) ≡ flat_map (λ k. pending (shards.chans k) (TakeHooks at)) (range_with_len a n)
 events_are at a zero shards = refl
 events_are at a (suc n) shards =
     let after : Shards = calls shards a (TakeHooks at) in
-    ap (λ (z : List Hook). pending (shards.chans a) ++ z)
+    ap (λ (z : List Hook). pending (shards.chans a) (TakeHooks at) ++ z)
     (events_are at (a + 1) n after
-    ∙ same_events (λ k. pending (after.chans k)) (λ k. pending (shards.chans k)) (a + 1) n (λ k above. ap pending (other_shard shards at a k (omega arith))))
+    ∙ same_events (λ k. pending (after.chans k) (TakeHooks at)) (λ k. pending (shards.chans k) (TakeHooks at)) (a + 1) n
+    (λ k above. ap (λ (h : ChanHistory). pending h (TakeHooks at)) (other_shard shards at a k (omega arith))))
 
 -- ---- the shards
 
@@ -90,9 +91,9 @@ users_stay : (at a n : ℕ) (shards : Shards) (k : ℕ) → (after_asks shards (
 users_stay at a zero shards k = refl
 users_stay at a (suc n) shards k = users_stay at (a + 1) n (calls shards a (TakeHooks at)) k
 
--- all events that waited were taken, and so are the bench's shards then
+-- all events that were pending were taken, and so are the bench's shards then
 pub record AllTaken (at : ℕ) (asked : List Asked) (old new : BenchModel) (shards : Shards) : Type 0 where
-  pub events : taken asked ≡ events_waiting shards (length old.shards)
+  pub events : taken asked ≡ events_waiting at shards (length old.shards)
   pub at_shards : IsAtShards new (taken_hooks at shards)
 
 pub all_taken : CallsAlone → (at : ℕ) (asked : List Asked) (old new : BenchModel) (shards : Shards) → Makes asked (view_of old) (view_of new)
@@ -115,7 +116,7 @@ all_taken law at asked old new shards makes order answered alone lists =
 -- what was printed after the cut
 pub gathers_as : (at : ℕ) (asked : List Asked) (old new : BenchModel) (before mid after : Batching) (wrote written : List ℕ) (shards : Shards) → AllTaken at asked old new shards
     → mid ≡ after_cut (with_events before (taken asked)) at → Prints mid after wrote written
-    → Gathers at (with_events before (events_waiting shards (length old.shards))) new after wrote written shards
+    → Gathers at (with_events before (events_waiting at shards (length old.shards))) new after wrote written shards
 gathers_as at asked old new before mid after wrote written shards all cut prints = record {
   prints = subst (λ (b : Batching). Prints b after wrote written) (cut ∙ ap (λ (events : List Hook). after_cut (with_events before events) at) all.events) prints;
   at_shards = all.at_shards;
@@ -147,14 +148,14 @@ same_sender b at =
 
 -- the player's batcher, after the events of all shards were taken
 pub record IsGathered (config : Config) (p : Progress) (at : ℕ) (after : Batching) (wrote written : List ℕ) : Type 0 where
-  pub text : written ≡ wrote ++ flat_map (λ c. batch_line (batch_of (sender_of config) c)) (cut_now (with_all_events config p) at)
-  pub state : after ≡ batching_of config (record { uncut = (after_cut (with_all_events config p) at).uncut; next = (after_cut (with_all_events config p) at).next })
+  pub text : written ≡ wrote ++ flat_map (λ c. batch_line (batch_of (sender_of config) c)) (cut_now (with_all_events config p at) at)
+  pub state : after ≡ batching_of config (record { uncut = (after_cut (with_all_events config p at) at).uncut; next = (after_cut (with_all_events config p at) at).next })
 
 pub is_gathered : (config : Config) (p : Progress) (at count : ℕ) (before after : Batching) (bench : BenchModel) (wrote written : List ℕ) → before ≡ batching_of config p.webhooks
-    → count ≡ config.chan_shards → Gathers at (with_events before (events_waiting p.shards count)) bench after wrote written p.shards → IsGathered config p at after wrote written
+    → count ≡ config.chan_shards → Gathers at (with_events before (events_waiting at p.shards count)) bench after wrote written p.shards → IsGathered config p at after wrote written
 is_gathered config p at count before after bench wrote written is many gathers =
-    let b : Batching = with_all_events config p in
-    let same : with_events before (events_waiting p.shards count) ≡ b = ap₂ (λ (x : Batching) (n : ℕ). with_events x (events_waiting p.shards n)) is many in
+    let b : Batching = with_all_events config p at in
+    let same : with_events before (events_waiting at p.shards count) ≡ b = ap₂ (λ (x : Batching) (n : ℕ). with_events x (events_waiting at p.shards n)) is many in
     let prints : Prints (after_cut b at) after wrote written = subst (λ (x : Batching). Prints (after_cut x at) after wrote written) same gathers.prints in
     record {
       text = prints.text ∙ ap (λ (z : List ℕ). wrote ++ z) (lines_of_cut b at refl);

@@ -14,7 +14,7 @@ use ch_batch::{Batch, Batcher};
 use ch_desk::{Bench, calls_alone};
 use std::alloc::Global;
 
-/// Takes the webhook events that wait on the channel shards at the moment `at`, cuts them into batches, and prints these.
+/// Takes the webhook events that are pending on the channel shards at the moment `at`, cuts them into batches, and prints these.
 /// Each counts as sent then.
 pub fn gather_hooks(
     alloc: Global,
@@ -25,7 +25,7 @@ pub fn gather_hooks(
 ) -> Result<(), Memory>
     requires { at ≤ latest_moment }
     ensures gathers { (shards : Shards) → IsAtShards bench.old shards → IsAlone (view_of bench.new) → OnOk result
-        (Gathers at (with_events batcher.old.state (events_waiting shards (length bench.old.shards))) bench.new batcher.new.state out.old.items out.new.items shards) }
+        (Gathers at (with_events batcher.old.state (events_waiting at shards (length bench.old.shards))) bench.new batcher.new.state out.old.items out.new.items shards) }
     ensures shards { (config : Config) → HasShards config bench.old → HasShards config bench.new }
 {
     calls_alone();

@@ -1,4 +1,4 @@
--- The line `hooks`: the webhook events that wait on the channel shards are taken and cut into batches, and each batch is written
+-- The line `hooks`: the webhook events that are pending on the channel shards are taken and cut into batches, and each batch is written
 -- and counts as sent.
 use Rattle.std.specs.Prelude.{ℕ, List, [], ◌∷◌, ◌++◌, codes, flat_map}
 use Rattle.std.specs.Fmt.{decimal}
@@ -7,7 +7,7 @@ use Rattle.ch_base.specs.declared.channel.ChanCall.TheVariants.{TakeHooks}
 use Rattle.ch_base.specs.declared.webhook.Hook.{Hook}
 use Rattle.ch_config.specs.declared.config.Config.{Config}
 use Rattle.ch_history.specs.Alone.{with_call}
-use Rattle.ch_history.specs.Webhooks.{pending}
+use Rattle.ch_history.specs.Pending.{pending}
 use Rattle.ch_protocol.specs.Shards.{Shards}
 use Rattle.ch_webhooks.specs.Batches.{batch_of}
 use Rattle.ch_webhooks.specs.Batching.{Batching, after_cut, cut_now, with_events}
@@ -24,9 +24,9 @@ sender_of config = record { key = config.key; secret = config.secret; start = st
 abbrev pub batching_of : Config → Webhooks → Batching
 batching_of config w = record { sender = sender_of config; uncut = w.uncut; waiting = []; next = w.next }
 
--- the events that wait on so many channel shards, ascending
-abbrev pub events_waiting : Shards → ℕ → List Hook
-events_waiting shards count = flat_map (λ k. pending (shards.chans k)) (range_with_len 0 count)
+-- the events that are pending at the moment on so many channel shards, ascending
+abbrev pub events_waiting : ℕ → Shards → ℕ → List Hook
+events_waiting at shards count = flat_map (λ k. pending (shards.chans k) (TakeHooks at)) (range_with_len 0 count)
 
 -- a TakeHooks is made on each channel shard
 abbrev pub taken_hooks : ℕ → Shards → Shards
@@ -36,14 +36,14 @@ taken_hooks at shards = record { chans = λ k. with_call (shards.chans k) (TakeH
 abbrev pub batch_line : Batch → List ℕ
 batch_line b = codes "hook " ++ decimal b.number ++ 32 ∷ b.signature ++ 32 ∷ b.body ++ line_end
 
--- the batcher with all events that wait
-abbrev pub with_all_events : Config → Progress → Batching
-with_all_events config p = with_events (batching_of config p.webhooks) (events_waiting p.shards config.chan_shards)
+-- the batcher with all events that are pending at the moment
+abbrev pub with_all_events : Config → Progress → ℕ → Batching
+with_all_events config p at = with_events (batching_of config p.webhooks) (events_waiting at p.shards config.chan_shards)
 
--- all events that wait are taken and cut
+-- all events that are pending are taken and cut
 abbrev pub gathers : Config → Progress → ℕ → Played
 gathers config p at =
-    let b = with_all_events config p in
+    let b = with_all_events config p at in
     record {
       text = flat_map (λ c. batch_line (batch_of b.sender c)) (cut_now b at);
       next = record {

@@ -10,7 +10,7 @@ use std::test::Fail;
 const OTHER_APP: &str = r#"{"app_id":"1","key":"other","secret":"s"}"#;
 
 /// Configurations, lines, and what is written of them.
-const TRANSCRIPTS: [(&str, &str, &str); 21] = [
+const TRANSCRIPTS: [(&str, &str, &str); 20] = [
     // a published event reaches both sockets
     (
         BUILT_IN,
@@ -56,23 +56,6 @@ sent 1 0
 1 {"event":"pusher:error","data":{"message":"already subscribed","code":4313}}
 1 {"event":"pusher:error","data":{"message":"not subscribed","code":4314}}
 hook 1 f61aa864a1de85cf2f2a2faddf30c613afb428cffe7e3512b567c675549827fb {"time_ms":5,"events":[{"name":"channel_occupied","channel":"a"}]}
-"#,
-    ),
-    // a loss over three channels vacates them in their order
-    (
-        BUILT_IN,
-        r#"0 open /app/k?protocol=7
-0 say 1 {"event":"pusher:subscribe","data":{"channel":"b"}}
-0 say 1 {"event":"pusher:subscribe","data":{"channel":"a"}}
-0 say 1 {"event":"pusher:subscribe","data":{"channel":"c"}}
-4 lose 1
-5 hooks
-"#,
-        r#"1 {"event":"pusher:connection_established","data":"{\"socket_id\":\"1.1\",\"activity_timeout\":120}"}
-1 {"event":"pusher_internal:subscription_succeeded","channel":"b","data":"{}"}
-1 {"event":"pusher_internal:subscription_succeeded","channel":"a","data":"{}"}
-1 {"event":"pusher_internal:subscription_succeeded","channel":"c","data":"{}"}
-hook 1 c5a94f0df55f811cc671daa247490b93db1d9599ca6d079f6202b411e4ff78e2 {"time_ms":5,"events":[{"name":"channel_occupied","channel":"b"},{"name":"channel_occupied","channel":"a"},{"name":"channel_occupied","channel":"c"},{"name":"channel_vacated","channel":"a"},{"name":"channel_vacated","channel":"b"},{"name":"channel_vacated","channel":"c"}]}
 "#,
     ),
     // two sockets of a user are one member

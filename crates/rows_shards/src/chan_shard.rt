@@ -14,6 +14,7 @@ fn join(
     socket: u64,
     channel: &str,
     member: Option<Member>,
+    at: u16,
 ) -> Result<ChanCall, Memory>
     requires socket { IsSocket socket }
     requires name { IsTrue (is_good_name channel.now) }
@@ -24,7 +25,7 @@ fn join(
         socket,
         channel: Text::of(alloc, channel)?,
         member,
-        at: 0,
+        at: u64::from(at),
     })
 }
 
@@ -96,18 +97,26 @@ fn list_users(alloc: Global) -> Result<ChanCall, Memory>
     })
 }
 
-/// The call of a letter: socket 1 is on `a` (`J`, `X`), and socket 2 on `presence-r` (`M`, `S`, `L`).
-fn call(alloc: Global, letter: u8) -> Result<ChanCall, Memory>
+/// The call of a letter: socket 1 is on `a` (`J`, `X`), and socket 2 on `presence-r` (`M`, `S`, `L`, `Y`). Joins, losses and takes
+/// of webhook events are made at the moment.
+fn call(alloc: Global, letter: u8, at: u16) -> Result<ChanCall, Memory>
     ensures { IfOk result IsWellFormed }
 {
     match letter {
-        b'J' => join(alloc, 1, "a", None),
-        b'M' => join(alloc, 2, "presence-r", Some(member(alloc, "u")?)),
+        b'J' => join(alloc, 1, "a", None, at),
+        b'M' => join(alloc, 2, "presence-r", Some(member(alloc, "u")?), at),
         b'L' => leave(alloc, 2, "presence-r"),
-        b'X' => Ok(ChanCall::Lost { socket: 1, at: 0 }),
+        b'X' => Ok(ChanCall::Lost {
+            socket: 1,
+            at: u64::from(at),
+        }),
+        b'Y' => Ok(ChanCall::Lost {
+            socket: 2,
+            at: u64::from(at),
+        }),
         b'P' => publish(alloc, "a"),
         b'S' => say(alloc, 2, "presence-r"),
-        b'H' => Ok(ChanCall::TakeHooks { at: 0 }),
+        b'H' => Ok(ChanCall::TakeHooks { at: u64::from(at) }),
         b'N' => Ok(ChanCall::Names {
             prefix: Text::new(alloc),
         }),
@@ -171,12 +180,12 @@ fn push_answer(alloc: Global, words: &mut String, answer: ChanAnswer) -> Result<
     Ok(())
 }
 
-/// What caller 3 of a new shard is answered, the letters of the shard's tail and its open subscriptions.
-fn told(alloc: Global, letters: &[u8]) -> Result<String, Fail> {
+/// What caller 3 of a new shard is answered at the moments, the letters of the shard's tail and its open subscriptions.
+fn told(alloc: Global, letters: &[u8], moments: &[u16]) -> Result<String, Fail> {
     let mut shard = ChanShard::new(alloc)?;
     let mut words = String::new(alloc);
-    for letter in letters {
-        let answer = shard.apply(3, &call(alloc, *letter)?)?;
+    for (letter, at) in letters.iter().zip(moments) {
+        let answer = shard.apply(3, &call(alloc, *letter, *at)?)?;
         push_answer(alloc, &mut words, answer)?;
     }
     for i in 0..shard.tail_len() {
@@ -190,18 +199,30 @@ fn told(alloc: Global, letters: &[u8]) -> Result<String, Fail> {
 #[test]
 fn calls_are_answered(rt: HostRuntime) -> Result<(), Fail> {
     let alloc: Global = rt.alloc();
-    let table: [(&[u8], &str); 2] = [
+    let table: [(&[u8], &[u16], &str); 4] = [
         (
             b"JXJJH",
-            "Joined; Gone { count: 1 }; Joined; Already; occupied vacated occupied ; JXJJH 1",
+            &[0, 10, 3_009, 3_009, 3_009],
+            "Joined; Gone { count: 1 }; Joined; Already; occupied ; JXJJH 1",
+        ),
+        (
+            b"JXJH",
+            &[0, 10, 3_010, 3_010],
+            "Joined; Gone { count: 1 }; Joined; occupied vacated occupied ; JXJH 1",
+        ),
+        (
+            b"MYMH",
+            &[0, 10, 20, 20],
+            "Joined; Gone { count: 1 }; Joined; occupied added removed added ; JXJH 1",
         ),
         (
             b"JMPSKNULXTH",
-            "Joined; Joined; Sent { subs: 1, users: 0 }; Said; Looked { subs: 1, users: 0, cache: None }; a=1,0 presence-r=1,1 ; u; Left; Gone { count: 1 }; succeeded present event ; occupied occupied added client removed vacated vacated ; JJPSKNULXTH 0",
+            &[0; 11],
+            "Joined; Joined; Sent { subs: 1, users: 0 }; Said; Looked { subs: 1, users: 0, cache: None }; a=1,0 presence-r=1,1 ; u; Left; Gone { count: 1 }; succeeded present event ; occupied occupied added client removed ; JJPSKNULXTH 0",
         ),
     ];
-    for (letters, want) in table {
-        let got = told(alloc, letters)?;
+    for (letters, moments, want) in table {
+        let got = told(alloc, letters, moments)?;
         assert_eq!(rt; got.as_str(), want);
     }
     Ok(())
