@@ -1,1 +1,2 @@
 pub mod HookLog
+pub mod Noting
