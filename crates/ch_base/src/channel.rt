@@ -1,6 +1,7 @@
 ghost use Rattle.std.specs.Prelude.{◌≡◌, IfOk};
 
-use crate::items::{FrameList, HookList, NameRows, TextList};
+use crate::frame_list::FrameList;
+use crate::items::{HookList, NameRows, TextList};
 use crate::memory::Memory;
 use crate::text::Text;
 use std::alloc::Global;

@@ -3,7 +3,6 @@ ghost use Rattle.std.specs.Option.{option_copied};
 ghost use Rattle.std.specs.Cmp.Lexicographic.{pointwise, lists_per, lists_equiv};
 
 use crate::channel::{Member, NameRow};
-use crate::frame::FrameFor;
 use crate::memory::Memory;
 use crate::text::Text;
 use crate::webhook::Hook;
@@ -18,9 +17,6 @@ pub type TextList = Items<Text>;
 
 /// A list of presence members.
 pub type MemberList = Items<Member>;
-
-/// A list of frames, each with its socket.
-pub type FrameList = Items<FrameFor>;
 
 /// A list of webhook events.
 pub type HookList = Items<Hook>;

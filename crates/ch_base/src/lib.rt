@@ -9,6 +9,7 @@
 mod channel;
 mod entry;
 mod frame;
+mod frame_list;
 mod items;
 mod memory;
 mod printed;
@@ -21,7 +22,8 @@ mod webhook;
 pub use channel::{CacheRow, ChanAnswer, ChanCall, Member, NameRow};
 pub use entry::Entry;
 pub use frame::{Frame, FrameFor};
-pub use items::{Bytes, FrameList, HookList, Items, MemberList, NameRows, TextList};
+pub use frame_list::FrameList;
+pub use items::{Bytes, HookList, Items, MemberList, NameRows, TextList};
 pub use memory::Memory;
 pub use printed::Printed;
 pub use served::Served;

@@ -1,4 +1,4 @@
-use crate::items::FrameList;
+use crate::frame_list::FrameList;
 use crate::text::Text;
 
 /// A call on a user shard. `at` is the moment of the call in milliseconds.

@@ -1,4 +1,4 @@
-use ch_base::{FrameFor, Member, Text};
+use ch_base::{Member, Shared, Text};
 
 /// An open subscription of a socket to a channel. The owner is the caller that made it, and the
 /// member is there exactly on a presence channel.
@@ -28,8 +28,8 @@ pub struct UserSocket {
 }
 
 /// A frame with its socket, and the caller that hands it to that socket.
-#[derive(Debug, PartialEq, Eq, Drop)]
+#[derive(Debug, Drop)]
 pub struct Delivery {
     pub owner: u64,
-    pub item: FrameFor,
+    pub item: Shared,
 }

@@ -1,7 +1,7 @@
 -- What may go to another thread.
 use denote.Param.Send.{IsSend, sendable, view_send}
 use Rattle.std.proofs.Crossing.{crosses}
-use Rattle.ch_base.proofs.Crossing.{frame_for_send}
+use Rattle.ch_base.proofs.Crossing.{shared_send}
 use Rattle.ch_outbox.specs.contracts.queue.Queue as Queue
 use Rattle.ch_outbox.specs.contracts.queue.Queue.TheInside as InsideQueue
 use Rattle.ch_outbox.specs.contracts.outbox.Outbox as Outbox
@@ -9,7 +9,7 @@ use Rattle.ch_outbox.specs.contracts.outbox.Outbox.TheInside as Inside
 
 queue_send : IsSend Queue.the_row
 queue_send =
-    let inside : IsSend InsideQueue.the_row = search (sendable, crosses, frame_for_send) depth 24 in
+    let inside : IsSend InsideQueue.the_row = search (sendable, crosses, shared_send) depth 24 in
     view_send InsideQueue.the_row _ _ _ _ inside
 
 pub outbox_send : IsSend Outbox.the_row

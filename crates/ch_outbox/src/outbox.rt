@@ -1,7 +1,7 @@
 ghost use Rattle.std.specs.Prelude.{◌≡◌, ◌≢◌, ℕ, ◌<◌, ◌≤◌, [], OnOk, vec_len};
 
 use crate::queue::Queue;
-use ch_base::{FrameFor, FrameList, Memory};
+use ch_base::{FrameList, Memory, Shared};
 use std::alloc::Global;
 use std::marker::Model;
 
@@ -48,7 +48,7 @@ impl Outbox {
     }
 
     /// Adds a frame at the end of the owner's. It takes no memory.
-    pub fn put(&mut self, owner: u64, item: FrameFor)
+    pub fn put(&mut self, owner: u64, item: Shared)
         requires owner { owner < 64 }
         requires room { 0 < spare_of self.old owner }
         ensures { Puts self.old self.new owner item }

@@ -1,6 +1,6 @@
 ghost use Rattle.std.specs.Prelude.{◌≡◌, ◌+◌, ◌<◌, ◌≤◌, [], ◌∷◌, ◌++◌, OnOk};
 
-use ch_base::{FrameFor, FrameList, Memory};
+use ch_base::{FrameList, Memory, Shared};
 use std::alloc::Global;
 use std::marker::Model;
 use std::mem;
@@ -9,7 +9,7 @@ use std::mem;
 #[derive(Drop)]
 pub struct Queue {
     alloc: Global,
-    frames: Vec<FrameFor>,
+    frames: Vec<Shared>,
 }
 
 impl Model for Queue {
@@ -42,7 +42,7 @@ impl Queue {
     }
 
     /// Adds a frame. It takes no memory.
-    pub fn put(&mut self, item: FrameFor)
+    pub fn put(&mut self, item: Shared)
         requires { 0 < self.old.spare }
         ensures frames { self.new.frames ≡ self.old.frames ++ item ∷ [] }
         ensures spare { self.new.spare + 1 ≡ self.old.spare }

@@ -20,6 +20,11 @@ impl Press {
         Press { alloc, texts: 0 }
     }
 
+    /// The allocator of its texts.
+    pub fn alloc(&self) -> Global {
+        self.alloc
+    }
+
     /// Prints a frame, which isn't `Opened`: its text is told apart by the server's start.
     pub fn print(&mut self, frame: Frame) -> Result<Arc<Printed>, Memory>
         requires { is_opened frame ≡ false }
