@@ -1,3 +1,2 @@
 pub mod Escaped
 pub mod Joined
-pub mod Crossing

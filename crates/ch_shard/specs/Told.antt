@@ -1,17 +1,9 @@
 -- Frames that many sockets get.
 use Rattle.std.specs.Prelude.{ℕ, List, Option, filter, map}
 use Rattle.ch_base.specs.declared.frame.Frame.{Frame}
-use Rattle.ch_base.specs.declared.frame.Frame.TheVariants.{Added, Removed, Event}
 use Rattle.ch_history.specs.declared.rows.Subscription.{Subscription}
 use Rattle.ch_history.specs.declared.rows.Delivery.{Delivery}
 use Rattle.ch_history.specs.Frames.{to, is_other}
-
--- an event, or a member that came or went
-abbrev pub IsNews : Frame → Type 0
-IsNews (Event channel event body user_id) = Unit {0}
-IsNews (Added channel member) = Unit {0}
-IsNews (Removed channel user_id) = Unit {0}
-IsNews _ = ⊥
 
 -- the frame for each subscription but that of the excepted socket
 abbrev pub told : Frame → Option ℕ → List Subscription → List Delivery

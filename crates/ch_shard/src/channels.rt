@@ -6,18 +6,21 @@ use ch_cache::Cache;
 use ch_hooklog::HookLog;
 use ch_outbox::Outbox;
 use ch_presence::Presence;
+use ch_print::Press;
 use ch_subs::Subs;
 use std::alloc::Global;
 use std::marker::Model;
 
 /// The parts of a shard: the open subscriptions, who is present by them, the latest events of cache
-/// channels, the frames that wait for each caller, and the webhook events that wait for the next take.
+/// channels, the press for the frames of each call, the frames that wait for each caller, and the webhook events that
+/// wait for the next take.
 #[derive(Drop)]
 pub struct Channels {
     pub(crate) alloc: Global,
     pub(crate) subs: Subs,
     pub(crate) presence: Presence,
     pub(crate) cache: Cache,
+    pub(crate) press: Press,
     pub(crate) outbox: Outbox,
     pub(crate) log: HookLog,
 }
@@ -50,6 +53,7 @@ impl Channels {
             subs: Subs::new(alloc),
             presence: Presence::new(alloc),
             cache: Cache::new(alloc),
+            press: Press::new(alloc),
             outbox: Outbox::new(alloc),
             log: HookLog::new(alloc),
         }
@@ -60,6 +64,11 @@ impl Channels {
         ensures { result ≡ length self.now.subs }
     {
         self.subs.len()
+    }
+
+    /// How many texts were printed.
+    pub fn texts(&self) -> u64 {
+        self.press.texts()
     }
 
     /// Serves one call; `now` is the shard's clock with it. All memory of a call is taken before its first

@@ -1,6 +1,8 @@
-ghost use Rattle.std.specs.Prelude.{◌≡◌, ◌∷◌, [], ◌++◌, IfOk, OnOk, IsTrue};
+ghost use Rattle.std.specs.Prelude.{◌≡◌, false, ◌∷◌, [], ◌++◌, IfOk, OnOk, IsTrue};
 ghost use Rattle.std.specs.Option.{option_copied};
+ghost use Rattle.ch_base.specs.Printed.{is_opened};
 ghost use Rattle.ch_history.specs.ChannelName.{is_good_name};
+ghost use Rattle.ch_history.specs.Deliveries.{delivery};
 ghost use Rattle.ch_history.specs.Frames.{latest_frame};
 ghost use Rattle.ch_history.specs.Subscriptions.{on_channel};
 ghost use Rattle.ch_history.specs.Webhooks.{missed};
@@ -10,9 +12,10 @@ ghost use Rattle.ch_shard.specs.Greeting.{first_frame, latest_news, new_user, ar
 use crate::kinds::is_cache;
 use crate::news::event_frame;
 use crate::telling::tell;
-use ch_base::{Frame, FrameFor, Hook, Member, MemberList, Memory, Text};
+use ch_base::{Frame, Hook, Member, MemberList, Memory, Shared, Text};
 use ch_history::{Cached, Delivery};
 use ch_presence::{Presence, Present};
+use ch_print::Press;
 use ch_subs::Subs;
 use std::alloc::Global;
 
@@ -23,7 +26,8 @@ pub fn first_frame(
     channel: &Text,
     newcomer: Option<&Present>,
 ) -> Result<Frame, Memory>
-    ensures { IfOk result (λ f. f ≡ first_frame presence.now.rows channel.now (option_copied newcomer.entry)) }
+    ensures is { IfOk result (λ f. f ≡ first_frame presence.now.rows channel.now (option_copied newcomer.entry)) }
+    ensures timeless { IfOk result (λ f. is_opened f ≡ false) }
 {
     let channel = channel.copy(alloc)?;
     match newcomer {
@@ -49,7 +53,7 @@ fn member_rows(alloc: Global, presence: &Presence, newcomer: &Present) -> Result
 
 /// Adds what a newcomer gets of a cache channel's latest event.
 pub fn tell_latest(
-    alloc: Global,
+    press: &mut Press,
     latest: Option<&Cached>,
     owner: u64,
     socket: u64,
@@ -60,16 +64,33 @@ pub fn tell_latest(
     ensures { OnOk result (frames.new.items ≡ frames.old.items ++ latest_news channel.now (option_copied latest.entry) owner socket) }
 {
     if is_cache(channel) {
-        let frame = latest_frame(alloc, latest, channel)?;
-        let item = FrameFor { socket, frame };
-        frames.push(Delivery { owner, item })?;
+        let frame = latest_frame(press.alloc(), latest, channel)?;
+        greet(press, owner, socket, frame, frames)?;
     }
+    Ok(())
+}
+
+/// Prints a frame that the newcomer alone gets, and adds it.
+pub fn greet(
+    press: &mut Press,
+    owner: u64,
+    socket: u64,
+    frame: Frame,
+    frames: &mut Vec<Delivery>,
+) -> Result<(), Memory>
+    requires { is_opened frame ≡ false }
+    ensures { OnOk result (frames.new.items ≡ frames.old.items ++ delivery owner socket frame ∷ []) }
+{
+    let printed = press.print(frame)?;
+    let item = Shared::new(socket, printed);
+    frames.push(Delivery { owner, item })?;
     Ok(())
 }
 
 /// The channel's latest event, or that there is none.
 fn latest_frame(alloc: Global, latest: Option<&Cached>, channel: &Text) -> Result<Frame, Memory>
-    ensures { IfOk result (λ f. f ≡ latest_frame channel.now (option_copied latest.entry)) }
+    ensures is { IfOk result (λ f. f ≡ latest_frame channel.now (option_copied latest.entry)) }
+    ensures timeless { IfOk result (λ f. is_opened f ≡ false) }
 {
     match latest {
         None => Ok(Frame::Miss {
@@ -97,7 +118,7 @@ pub fn new_user<'a>(
 
 /// Adds the frames that tell the channel's subscriptions of a new user, where there is one.
 pub fn tell_arrival(
-    alloc: Global,
+    press: &mut Press,
     subs: &Subs,
     channel: &Text,
     member: Option<&Member>,
@@ -108,11 +129,12 @@ pub fn tell_arrival(
     match member {
         None => Ok(()),
         Some(member) => {
-            let frame = Frame::Added {
+            let alloc = press.alloc();
+            let printed = press.print(Frame::Added {
                 channel: channel.copy(alloc)?,
                 member: member.copy(alloc)?,
-            };
-            tell(alloc, subs, channel, &frame, None, frames)
+            })?;
+            tell(subs, channel, &printed, None, frames)
         }
     }
 }

@@ -12,10 +12,10 @@ ghost use Rattle.ch_shard.specs.Parts.{IsUnchanged, JoinGives, newcomer, join_fr
 
 use crate::channels::Channels;
 use crate::greeting::{
-    first_frame, log_arrival, log_missed, log_occupied, new_user, tell_arrival, tell_latest,
+    first_frame, greet, log_arrival, log_missed, log_occupied, new_user, tell_arrival, tell_latest,
 };
 use crate::made::{Made, hand_over, make_room};
-use ch_base::{ChanAnswer, FrameFor, Hook, Member, Memory, Text};
+use ch_base::{ChanAnswer, Hook, Member, Memory, Text};
 use ch_history::Delivery;
 use ch_presence::{Presence, Present};
 use std::alloc::Global;
@@ -73,7 +73,7 @@ impl Channels {
 
     /// The frames that the newcomer makes at the moment.
     fn greeting_frames(
-        &self,
+        &mut self,
         caller: u64,
         socket: u64,
         channel: &Text,
@@ -84,17 +84,14 @@ impl Channels {
         requires name { IsTrue (is_good_name channel.now) }
         requires member { IsMemberOf (is_presence channel.now) (option_copied member) }
         requires row { option_copied row ≡ newcomer_row channel.now socket (option_copied member) }
-        ensures { IfOk result (λ made. made.items ≡ join_frames self.now now (newcomer caller socket channel.now (option_copied member.entry))) }
+        ensures made { IfOk result (λ made. made.items ≡ join_frames self.old now (newcomer caller socket channel.now (option_copied member.entry))) }
+        ensures same { self.new ≡ self.old }
     {
         let mut frames = Vec::new(self.alloc);
         let frame = first_frame(self.alloc, &self.presence, channel, row)?;
-        let item = FrameFor { socket, frame };
-        frames.push(Delivery {
-            owner: caller,
-            item,
-        })?;
+        greet(&mut self.press, caller, socket, frame, &mut frames)?;
         tell_latest(
-            self.alloc,
+            &mut self.press,
             self.cache.latest(channel, now),
             caller,
             socket,
@@ -102,7 +99,7 @@ impl Channels {
             &mut frames,
         )?;
         let user = new_user(&self.presence, channel, member);
-        tell_arrival(self.alloc, &self.subs, channel, user, &mut frames)?;
+        tell_arrival(&mut self.press, &self.subs, channel, user, &mut frames)?;
         Ok(frames)
     }
 

@@ -18,7 +18,7 @@ impl Channels {
             return Ok(ChanAnswer::NotOn);
         }
         let mut made = Made::new(self.alloc);
-        part(self.alloc, &self.subs, channel, socket, &mut made)?;
+        part(&mut self.press, &self.subs, channel, socket, &mut made)?;
         make_room(&mut self.outbox, &mut self.log, &made)?;
         depart(&mut self.presence, &self.subs, channel, socket);
         self.subs.leave(socket, channel);
@@ -29,7 +29,7 @@ impl Channels {
     pub(crate) fn lost(&mut self, socket: u64) -> Result<ChanAnswer, Memory>
         ensures { MatchResult result (λ answer. LostGives self.old self.new socket answer) (λ _. IsUnchanged self.old self.new) }
     {
-        let made = partings(self.alloc, &self.subs, socket)?;
+        let made = partings(&mut self.press, &self.subs, socket)?;
         make_room(&mut self.outbox, &mut self.log, &made)?;
         self.presence.lost(socket);
         let count = self.subs.lost(socket);

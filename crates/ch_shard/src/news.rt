@@ -1,39 +1,9 @@
 ghost use Rattle.std.specs.Prelude.{◌≡◌, IfOk};
 ghost use Rattle.std.specs.Option.{option_copied};
 ghost use Rattle.ch_base.specs.declared.frame.Frame.TheVariants.{Event};
-ghost use Rattle.ch_shard.specs.Told.{IsNews};
 
 use ch_base::{Frame, Memory, Text};
 use std::alloc::Global;
-
-/// A copy of a frame that many sockets get: an event, or a member that came or went.
-pub fn copy_news(alloc: Global, frame: &Frame) -> Result<Frame, Memory>
-    requires { IsNews frame.now }
-    ensures { IfOk result (λ f. f ≡ frame.now) }
-{
-    match frame {
-        Frame::Event {
-            channel,
-            event,
-            body,
-            user_id,
-        } => Ok(Frame::Event {
-            channel: channel.copy(alloc)?,
-            event: event.copy(alloc)?,
-            body: body.copy(alloc)?,
-            user_id: copied_id(alloc, user_id.as_ref())?,
-        }),
-        Frame::Added { channel, member } => Ok(Frame::Added {
-            channel: channel.copy(alloc)?,
-            member: member.copy(alloc)?,
-        }),
-        Frame::Removed { channel, user_id } => Ok(Frame::Removed {
-            channel: channel.copy(alloc)?,
-            user_id: user_id.copy(alloc)?,
-        }),
-        _ => unreachable!(),
-    }
-}
 
 /// The frame of an event.
 pub fn event_frame(

@@ -10,19 +10,20 @@ use crate::made::Made;
 use crate::telling::tell;
 use ch_base::{Frame, Hook, Member, Memory, Text};
 use ch_history::{Delivery, Subscription};
+use ch_print::Press;
 use ch_subs::Subs;
 use std::alloc::Global;
 
 /// What the loss of the socket makes: the ends of its subscriptions, ascending by channel.
-pub fn partings(alloc: Global, subs: &Subs, socket: u64) -> Result<Made, Memory>
+pub fn partings(press: &mut Press, subs: &Subs, socket: u64) -> Result<Made, Memory>
     requires { All HasMember subs.now }
     ensures frames { IfOk result (λ made. made.frames.items ≡ flat_map (λ c. leave_frames subs.now c socket) (channels_in subs.now socket)) }
     ensures hooks { IfOk result (λ made. made.hooks.items ≡ flat_map (λ c. leave_hooks subs.now c socket) (channels_in subs.now socket)) }
 {
-    let mut made = Made::new(alloc);
+    let mut made = Made::new(press.alloc());
     for i in 0..subs.channels(socket) {
         let channel = subs.channel(socket, i);
-        part(alloc, subs, channel, socket, &mut made)?;
+        part(press, subs, channel, socket, &mut made)?;
     }
     Ok(made)
 }
@@ -30,7 +31,7 @@ pub fn partings(alloc: Global, subs: &Subs, socket: u64) -> Result<Made, Memory>
 /// Adds what the end of the socket's subscription to the channel makes: where its user is gone from
 /// there, the others hear of it, and where there are no others, the channel is vacated.
 pub fn part(
-    alloc: Global,
+    press: &mut Press,
     subs: &Subs,
     channel: &Text,
     socket: u64,
@@ -40,8 +41,9 @@ pub fn part(
     ensures frames { OnOk result (made.new.frames.items ≡ made.old.frames.items ++ leave_frames subs.now channel.now socket) }
     ensures hooks { OnOk result (made.new.hooks.items ≡ made.old.hooks.items ++ leave_hooks subs.now channel.now socket) }
 {
+    let alloc = press.alloc();
     let gone = gone_user(subs, channel, socket);
-    say_farewell(alloc, subs, channel, socket, gone, &mut made.frames)?;
+    say_farewell(press, subs, channel, socket, gone, &mut made.frames)?;
     log_farewell(alloc, channel, gone, &mut made.hooks)?;
     let has_other = has_other(subs, channel, socket);
     log_vacated(alloc, channel, has_other, &mut made.hooks)?;
@@ -115,7 +117,7 @@ fn has_other(subs: &Subs, channel: &Text, socket: u64) -> bool
 
 /// Adds the frames that tell the others that the user is gone, where one is.
 fn say_farewell(
-    alloc: Global,
+    press: &mut Press,
     subs: &Subs,
     channel: &Text,
     socket: u64,
@@ -127,11 +129,12 @@ fn say_farewell(
     match gone {
         None => Ok(()),
         Some(user_id) => {
-            let frame = Frame::Removed {
+            let alloc = press.alloc();
+            let printed = press.print(Frame::Removed {
                 channel: channel.copy(alloc)?,
                 user_id: user_id.copy(alloc)?,
-            };
-            tell(alloc, subs, channel, &frame, Some(socket), made)
+            })?;
+            tell(subs, channel, &printed, Some(socket), made)
         }
     }
 }

@@ -1,20 +1,16 @@
-ghost use Rattle.std.specs.Prelude.{◌≡◌, ◌≤◌, ℕ, List, None, IfOk, OnOk, OnErr, IsTrue, MatchResult, []};
+ghost use Rattle.std.specs.Prelude.{◌≡◌, ◌≤◌, ℕ, List, OnOk, OnErr, IsTrue, MatchResult};
 ghost use Rattle.ch_cache.specs.Latest.{latest_in};
 ghost use Rattle.ch_history.specs.ChannelName.{is_good_name};
-ghost use Rattle.ch_history.specs.Frames.{is_other, broadcast};
 ghost use Rattle.ch_history.specs.Limits.{IsMoment};
-ghost use Rattle.ch_history.specs.Subscriptions.{on_channel};
 ghost use Rattle.ch_shard.specs.Parts.{IsUnchanged, PublishGives, after_event, event_at};
 
 use crate::channels::Channels;
 use crate::kinds::is_cache;
 use crate::made::{Made, hand_over, make_room};
 use crate::news::event_frame;
-use crate::telling::tell;
+use crate::telling::broadcast;
 use ch_base::{ChanAnswer, Memory, Text};
 use ch_cache::Cache;
-use ch_subs::Subs;
-use std::alloc::Global;
 
 impl Channels {
     pub(crate) fn publish(
@@ -31,30 +27,16 @@ impl Channels {
     {
         let subs = self.subs.count(channel);
         let users = self.user_count(channel);
-        let made = published(self.alloc, &self.subs, channel, event, body, except)?;
+        let frame = event_frame(self.alloc, channel, event, body, None)?;
+        let printed = self.press.print(frame)?;
+        let frames = broadcast(self.alloc, &self.subs, channel, &printed, except)?;
+        let hooks = Vec::new(self.alloc);
+        let made = Made { frames, hooks };
         make_room(&mut self.outbox, &mut self.log, &made)?;
         keep(&mut self.cache, channel, event, body, now)?;
         hand_over(&mut self.outbox, &mut self.log, made);
         Ok(ChanAnswer::Sent { subs, users })
     }
-}
-
-/// The event for each subscription to the channel but that of the excepted socket.
-fn published(
-    alloc: Global,
-    subs: &Subs,
-    channel: &Text,
-    event: &Text,
-    body: &Text,
-    except: Option<u64>,
-) -> Result<Made, Memory>
-    ensures frames { IfOk result (λ made. made.frames.items ≡ broadcast channel.now event.now body.now None (is_other except) (on_channel subs.now channel.now)) }
-    ensures hooks { IfOk result (λ made. made.hooks.items ≡ []) }
-{
-    let frame = event_frame(alloc, channel, event, body, None)?;
-    let mut made = Made::new(alloc);
-    tell(alloc, subs, channel, &frame, except, &mut made.frames)?;
-    Ok(made)
 }
 
 /// Makes this the latest event of the channel, where it keeps one, and removes the events that have ended. Nothing

@@ -102,4 +102,9 @@ impl ChanShard {
     {
         self.channels.open_subs()
     }
+
+    /// How many texts of frames the shard has printed so far: one for each frame of a call, however many sockets get it.
+    pub fn texts(&self) -> u64 {
+        self.channels.texts()
+    }
 }

@@ -1,63 +1,73 @@
 ghost use Rattle.std.specs.Prelude.{◌≡◌, ◌∷◌, [], ◌++◌, IfOk, OnOk};
+ghost use Rattle.std.specs.Arc.{arc_value};
 ghost use Rattle.ch_history.specs.Frames.{to, is_other};
 ghost use Rattle.ch_history.specs.Subscriptions.{on_channel};
-ghost use Rattle.ch_shard.specs.Told.{IsNews, told};
+ghost use Rattle.ch_shard.specs.Told.{told};
 
-use crate::news::copy_news;
-use ch_base::{Frame, FrameFor, Memory, Text};
+use ch_base::{Memory, Printed, Shared, Text};
 use ch_history::{Delivery, Subscription};
 use ch_subs::Subs;
 use std::alloc::Global;
+use std::sync::Arc;
 
-/// Adds the frame for each subscription to the channel but that of the excepted socket.
-pub fn tell(
+/// The frame for each subscription to the channel but that of the excepted socket.
+pub fn broadcast(
     alloc: Global,
     subs: &Subs,
     channel: &Text,
-    frame: &Frame,
+    printed: &Arc<Printed>,
+    except: Option<u64>,
+) -> Result<Vec<Delivery>, Memory>
+    ensures { IfOk result (λ made. made.items ≡ told (arc_value printed.now) except (on_channel subs.now channel.now)) }
+{
+    let mut made = Vec::new(alloc);
+    tell(subs, channel, printed, except, &mut made)?;
+    Ok(made)
+}
+
+/// Adds the frame for each subscription to the channel but that of the excepted socket. The frame is shared, and the room
+/// is taken at once.
+pub fn tell(
+    subs: &Subs,
+    channel: &Text,
+    printed: &Arc<Printed>,
     except: Option<u64>,
     made: &mut Vec<Delivery>,
 ) -> Result<(), Memory>
-    requires { IsNews frame.now }
-    ensures { OnOk result (made.new.items ≡ made.old.items ++ told frame.now except (on_channel subs.now channel.now)) }
+    ensures { OnOk result (made.new.items ≡ made.old.items ++ told (arc_value printed.now) except (on_channel subs.now channel.now)) }
 {
+    made.reserve(subs.count(channel) as usize)?;
     let mut walk = subs.walk(channel);
     'walk: while let Some(subscription) = walk.next() {
-        tell_one(alloc, subscription, frame, except, made)?;
+        tell_one(subscription, printed, except, made)?;
     }
     Ok(())
 }
 
 /// Adds the frame for the subscription, unless its socket is the excepted one.
 fn tell_one(
-    alloc: Global,
     subscription: &Subscription,
-    frame: &Frame,
+    printed: &Arc<Printed>,
     except: Option<u64>,
     made: &mut Vec<Delivery>,
 ) -> Result<(), Memory>
-    requires { IsNews frame.now }
-    ensures { OnOk result (made.new.items ≡ made.old.items ++ told frame.now except (subscription.now ∷ [])) }
+    ensures { OnOk result (made.new.items ≡ made.old.items ++ told (arc_value printed.now) except (subscription.now ∷ [])) }
 {
     if is_other(except, subscription.socket) {
-        let delivery = delivery(alloc, subscription, frame)?;
+        let delivery = delivery(subscription, printed)?;
         made.push(delivery)?;
     }
     Ok(())
 }
 
-/// The frame for one subscription.
-fn delivery(alloc: Global, subscription: &Subscription, frame: &Frame) -> Result<Delivery, Memory>
-    requires { IsNews frame.now }
-    ensures { IfOk result (λ d. d ≡ to frame.now subscription.now) }
+/// The frame for one subscription, which shares it with the others.
+fn delivery(subscription: &Subscription, printed: &Arc<Printed>) -> Result<Delivery, Memory>
+    ensures { IfOk result (λ d. d ≡ to (arc_value printed.now) subscription.now) }
 {
-    let frame = copy_news(alloc, frame)?;
+    let printed = Arc::try_clone(printed)?;
     Ok(Delivery {
         owner: subscription.owner,
-        item: FrameFor {
-            socket: subscription.socket,
-            frame,
-        },
+        item: Shared::new(subscription.socket, printed),
     })
 }
 

@@ -4,7 +4,7 @@ ghost use Rattle.ch_history.specs.ChannelName.{is_good_name, is_presence, kind_o
 ghost use Rattle.ch_history.specs.Limits.{IsSocket, is_user_id};
 ghost use Rattle.ch_history.specs.WellFormed.{IsMember, IsMemberOf, IsWellFormed};
 
-use ch_base::{ChanAnswer, ChanCall, Frame, Hook, Member, Memory, Text};
+use ch_base::{ChanAnswer, ChanCall, Frame, FrameList, Hook, Member, Memory, Text};
 use ch_shard::ChanShard;
 use std::alloc::Global;
 use std::test::Fail;
@@ -138,11 +138,11 @@ fn frame_word(frame: &Frame) -> &'static str {
 }
 
 /// Adds an answer, in words.
-fn push_answer(alloc: Global, words: &mut String, answer: &ChanAnswer) -> Result<(), Fail> {
+fn push_answer(alloc: Global, words: &mut String, answer: ChanAnswer) -> Result<(), Fail> {
     match answer {
-        ChanAnswer::Frames(frames) => {
-            for item in frames.as_slice() {
-                words.push_str(frame_word(&item.frame))?;
+        ChanAnswer::Frames(mut frames) => {
+            while let Some(item) = frames.take_front() {
+                words.push_str(frame_word(item.frame()))?;
             }
         }
         ChanAnswer::Hooks(hooks) => {
@@ -177,7 +177,7 @@ fn told(alloc: Global, letters: &[u8]) -> Result<String, Fail> {
     let mut words = String::new(alloc);
     for letter in letters {
         let answer = shard.apply(3, &call(alloc, *letter)?)?;
-        push_answer(alloc, &mut words, &answer)?;
+        push_answer(alloc, &mut words, answer)?;
     }
     for i in 0..shard.tail_len() {
         words.push(char::from(shard.tail_at(i).letter))?;
@@ -204,5 +204,56 @@ fn calls_are_answered(rt: HostRuntime) -> Result<(), Fail> {
         let got = told(alloc, letters)?;
         assert_eq!(rt; got.as_str(), want);
     }
+    Ok(())
+}
+
+/// The socket subscribes to `a`.
+fn join_room(alloc: Global, shard: &mut ChanShard, caller: u64, socket: u64) -> Result<(), Memory>
+    requires caller { caller < 64 }
+    requires socket { IsSocket socket }
+{
+    shard.apply(caller, &join(alloc, socket, "a", None)?)?;
+    Ok(())
+}
+
+/// A shard on which 100 sockets are subscribed to `a`, 50 by caller 0 and 50 by caller 1.
+fn full_room(alloc: Global) -> Result<ChanShard, Memory> {
+    let mut shard = ChanShard::new(alloc)?;
+    for socket in 1..51_u64 {
+        join_room(alloc, &mut shard, 0, socket)?;
+        join_room(alloc, &mut shard, 1, socket + 50)?;
+    }
+    Ok(shard)
+}
+
+/// How many frames of an event the caller takes.
+fn take_events(shard: &mut ChanShard, caller: u64) -> Result<u64, Memory>
+    requires { caller < 64 }
+{
+    match shard.apply(caller, &ChanCall::Take)? {
+        ChanAnswer::Frames(frames) => Ok(count_events(frames)),
+        _ => Ok(0),
+    }
+}
+
+fn count_events(mut frames: FrameList) -> u64 {
+    let mut count = 0_u64;
+    while let Some(item) = frames.take_front() {
+        if frame_word(item.frame()) == "event " {
+            count = count.saturating_add(1);
+        }
+    }
+    count
+}
+
+#[test]
+fn a_publish_to_a_hundred_sockets_prints_one_text(rt: HostRuntime) -> Result<(), Fail> {
+    let alloc: Global = rt.alloc();
+    let mut shard = full_room(alloc)?;
+    let before = shard.texts();
+    shard.apply(0, &publish(alloc, "a")?)?;
+    let printed = shard.texts().saturating_sub(before);
+    let events = (take_events(&mut shard, 0)?, take_events(&mut shard, 1)?);
+    assert_eq!(rt; (printed, events), (1, (50, 50)));
     Ok(())
 }

@@ -20,56 +20,63 @@ pub make_room-requires : goal.make_room-requires
 make_room-requires c =
     let n = newcomer c.args.caller c.args.socket c.args.channel.now (option_copied c.args.member) in
     let P = λ (k : Parts). All OwnsSub k.subs in
-    subst (All OwnsFrame) (sym c.in_ok-frames.ensures) (join_owned c.args.self.now c.args.now n (subst P c.self.view_is c.self.invariant.owners) c.requires.caller)
+    subst (All OwnsFrame) (sym c.in_ok-frames.ensures.made) (join_owned c.args.self.now c.args.now n (subst P c.self.view_is c.self.invariant.owners) c.requires.caller)
 
 pub hand_over-requires-clause-owners : goal.hand_over-requires-clause-owners
 hand_over-requires-clause-owners c =
     let n = newcomer c.args.caller c.args.socket c.args.channel.now (option_copied c.args.member) in
     let P = λ (k : Parts). All OwnsSub k.subs in
-    subst (All OwnsFrame) (sym c.in_ok-frames.ensures) (join_owned c.args.self.now c.args.now n (subst P c.self.view_is c.self.invariant.owners) c.requires.caller)
+    subst (All OwnsFrame) (sym c.in_ok-frames.ensures.made) (join_owned c.args.self.now c.args.now n (subst P c.self.view_is c.self.invariant.owners) c.requires.caller)
 
 pub enter-requires : goal.enter-requires
 enter-requires c =
     let d = c.args.channel.now in
     let socket = c.args.socket in
     let member = option_copied c.args.member in
-    let xs : List Subscription = c.self.inside.subs in
-    let off : is_on xs socket d ≡ false = sym c.on.ensures ∙ c.if-on.false in
-    subst (IsAbsent c.self.inside.presence.rows) (sym (c.as_ref-2.ensures.value ∙ c.in_ok-row.ensures)) (absent_is xs c.self.inside.presence.rows socket d member c.self.invariant off)
+    let rows = c.self-2.inside.presence.rows in
+    let same = ap (λ (k : Parts). is_on k.subs socket d) (c.self-2.view_is ∙ c.in_ok-frames.ensures.same ∙ sym c.self.view_is) in
+    let off : is_on c.self-2.inside.subs socket d ≡ false = same ∙ sym c.on.ensures ∙ c.if-on.false in
+    subst (IsAbsent rows) (sym (c.as_ref-2.ensures.value ∙ c.in_ok-row.ensures)) (absent_is c.self-2.inside.subs rows socket d member c.self-2.invariant off)
 
 pub invariant_of-self-in-Err : goal.invariant_of-self-in-Err
 invariant_of-self-in-Err c =
-    let xs : List Subscription = c.self.inside.subs in
+    let xs : List Subscription = c.self-2.inside.subs in
     let d = c.args.channel.now in
     let n : Subscription = newcomer c.args.caller c.args.socket d (option_copied c.args.member) in
-    let off : is_on xs c.args.socket d ≡ false = sym c.on.ensures ∙ c.if-on.false in
+    let same = ap (λ (k : Parts). is_on k.subs c.args.socket d) (c.self-2.view_is ∙ c.in_ok-frames.ensures.same ∙ sym c.self.view_is) in
+    let off : is_on xs c.args.socket d ≡ false = same ∙ sym c.on.ensures ∙ c.if-on.false in
     let joined : c.join.new.self ≡ xs ++ n ∷ [] = c.in_ok-join.ensures.ok ∙ ap (λ b. cond b xs (xs ++ n ∷ [])) off in
     let undone : c.leave.new.self ≡ xs = c.leave.ensures.subs ∙ ap (λ ys. without_one ys c.args.socket d) joined ∙ join_undone xs n off in
     let P = λ (ys : List Subscription). IsSound ys c.enter.new.presence.rows in
-    subst P (sym undone) (subst (IsSound xs) (sym c.in-Err.ensures.err) c.self.invariant)
+    subst P (sym undone) (subst (IsSound xs) (sym c.in-Err.ensures.err) c.self-2.invariant)
 
 pub returns-in-Err : goal.returns-in-Err
 returns-in-Err c =
-    let xs : List Subscription = c.self.inside.subs in
+    let xs : List Subscription = c.self-2.inside.subs in
     let d = c.args.channel.now in
     let n : Subscription = newcomer c.args.caller c.args.socket d (option_copied c.args.member) in
-    let off : is_on xs c.args.socket d ≡ false = sym c.on.ensures ∙ c.if-on.false in
+    let kept = c.self-2.view_is ∙ c.in_ok-frames.ensures.same in
+    let same = ap (λ (k : Parts). is_on k.subs c.args.socket d) (kept ∙ sym c.self.view_is) in
+    let off : is_on xs c.args.socket d ≡ false = same ∙ sym c.on.ensures ∙ c.if-on.false in
     let joined : c.join.new.self ≡ xs ++ n ∷ [] = c.in_ok-join.ensures.ok ∙ ap (λ b. cond b xs (xs ++ n ∷ [])) off in
     record {
-      subs = c.leave.ensures.subs ∙ ap (λ ys. without_one ys c.args.socket d) joined ∙ join_undone xs n off ∙ ap (λ (k : Parts). k.subs) c.self.view_is;
-      latest = λ e at. ap (λ (k : Parts). latest_in k.cache e at) c.self.view_is;
-      frames = λ w. c.make_room.ensures.frames w ∙ ap (λ (k : Parts). frames_of k.outbox w) c.self.view_is;
-      log = c.make_room.ensures.hooks ∙ ap (λ (k : Parts). k.log) c.self.view_is;
+      subs = c.leave.ensures.subs ∙ ap (λ ys. without_one ys c.args.socket d) joined ∙ join_undone xs n off ∙ ap (λ (k : Parts). k.subs) kept;
+      latest = λ e at. ap (λ (k : Parts). latest_in k.cache e at) kept;
+      frames = λ w. c.make_room.ensures.frames w ∙ ap (λ (k : Parts). frames_of k.outbox w) kept;
+      log = c.make_room.ensures.hooks ∙ ap (λ (k : Parts). k.log) kept;
     }
 
 pub invariant_of-self-2 : goal.invariant_of-self-2
 invariant_of-self-2 c =
-    let xs : List Subscription = c.self.inside.subs in
-    let n : Subscription = newcomer c.args.caller c.args.socket c.args.channel.now (option_copied c.args.member) in
-    let off : is_on xs c.args.socket c.args.channel.now ≡ false = sym c.on.ensures ∙ c.if-on.false in
+    let xs : List Subscription = c.self-2.inside.subs in
+    let d = c.args.channel.now in
+    let rows = c.self-2.inside.presence.rows in
+    let n : Subscription = newcomer c.args.caller c.args.socket d (option_copied c.args.member) in
+    let same = ap (λ (k : Parts). is_on k.subs c.args.socket d) (c.self-2.view_is ∙ c.in_ok-frames.ensures.same ∙ sym c.self.view_is) in
+    let off : is_on xs c.args.socket d ≡ false = same ∙ sym c.on.ensures ∙ c.if-on.false in
     let now : c.join.new.self ≡ xs ++ n ∷ [] = c.in_ok-join.ensures.ok ∙ ap (λ b. cond b xs (xs ++ n ∷ [])) off in
     let P = λ (ys : List Subscription). IsSound ys c.enter.new.presence.rows in
     let Q = λ (rs : List Present). IsSound (xs ++ n ∷ []) rs in
     subst P (sym now)
-    (subst Q (sym (c.in-Ok.ensures.ok ∙ ap (with_newcomer c.self.inside.presence.rows) (c.as_ref-2.ensures.value ∙ c.in_ok-row.ensures)))
-    (IsSound-join xs c.self.inside.presence.rows n c.requires.caller c.requires.member c.self.invariant))
+    (subst Q (sym (c.in-Ok.ensures.ok ∙ ap (with_newcomer rows) (c.as_ref-2.ensures.value ∙ c.in_ok-row.ensures)))
+    (IsSound-join xs rows n c.requires.caller c.requires.member c.self-2.invariant))
