@@ -3,6 +3,7 @@ ghost use Rattle.ch_base.specs.Growth.{entry};
 
 use ch_base::{Memory, UserAnswer, UserCall};
 use ch_outbox::Outbox;
+use ch_print::Press;
 use ch_watch::Watches;
 use std::alloc::Global;
 use std::marker::Model;
@@ -13,6 +14,7 @@ pub struct UserShard {
     pub(crate) alloc: Global,
     pub(crate) watches: Watches,
     pub(crate) outbox: Outbox,
+    pub(crate) press: Press,
 }
 
 impl Model for UserShard {
@@ -42,6 +44,7 @@ impl UserShard {
             alloc,
             watches: Watches::new(alloc),
             outbox: Outbox::new(alloc),
+            press: Press::new(alloc),
         })
     }
 
@@ -85,5 +88,11 @@ impl UserShard {
         ensures { (h : UserHistory) → Stands self.now h → result ≡ min (open_signs h) (2 ^ 64 - 1) }
     {
         self.watches.open_signs()
+    }
+
+    /// How many texts of frames it has printed so far; at most 2^64 - 1. A frame is printed once, however many sockets
+    /// get it.
+    pub fn texts(&self) -> u64 {
+        self.press.texts()
     }
 }
