@@ -1,4 +1,4 @@
-ghost use Rattle.std.specs.Prelude.{◌≡◌, IfOk, MatchResult, flat_map};
+ghost use Rattle.std.specs.Prelude.{◌≡◌, ◌++◌, IfOk, OnOk, MatchResult, flat_map};
 ghost use Rattle.ch_history.specs.SignIns.{users_of};
 ghost use Rattle.ch_ushard.specs.Kept.{IsUnchanged, LostGives};
 ghost use Rattle.ch_ushard.specs.Made.{HasOwners, farewell};
@@ -6,16 +6,15 @@ ghost use Rattle.ch_ushard.specs.Made.{HasOwners, farewell};
 use crate::made::Made;
 use crate::shard::UserShard;
 use crate::telling::{change, tell};
-use ch_base::{Memory, UserAnswer};
+use ch_base::{Memory, Text, UserAnswer};
 use ch_print::Press;
 use ch_watch::Watches;
-use std::alloc::Global;
 
 impl UserShard {
     pub(crate) fn lost(&mut self, socket: u64) -> Result<UserAnswer, Memory>
         ensures { MatchResult result (λ answer. LostGives self.old self.new socket answer) (λ _. IsUnchanged self.old self.new) }
     {
-        let made = farewells(self.alloc, &mut self.press, &self.watches, socket)?;
+        let made = farewells(&mut self.press, &self.watches, socket)?;
         made.reserve(&mut self.outbox)?;
         let (signs, watches) = self.watches.lost(socket);
         made.deliver(&mut self.outbox);
@@ -23,25 +22,34 @@ impl UserShard {
     }
 }
 
-/// What the loss of the socket makes: the ends of its sign-ins, ascending by user. Where no other socket is signed in as
-/// the user, the other watchers of the user are told that it is offline. The watches of the socket itself have ended
-/// before its sign-ins do.
-fn farewells(
-    alloc: Global,
-    press: &mut Press,
-    watches: &Watches,
-    socket: u64,
-) -> Result<Made, Memory>
+/// What the loss of the socket makes: the ends of its sign-ins, ascending by user.
+fn farewells(press: &mut Press, watches: &Watches, socket: u64) -> Result<Made, Memory>
     requires { HasOwners watches.now }
     ensures { IfOk result (λ made. made ≡ flat_map (farewell watches.now socket) (users_of watches.now.signs socket)) }
 {
-    let mut made = Made::new(alloc);
+    let mut made = Made::new(press.alloc());
     for i in 0..watches.users_of(socket) {
         let user = watches.user_of(socket, i);
-        if !watches.has_other(socket, user) && watches.watchers(user) != 0 {
-            let printed = change(alloc, press, user, false)?;
-            tell(watches, user, &printed, Some(socket), &mut made)?;
-        }
+        part(press, watches, user, socket, &mut made)?;
     }
     Ok(made)
+}
+
+/// Where no other socket is signed in as the user, tells the other watchers of the user that it is
+/// offline. The watches of the socket itself have ended before its sign-ins do.
+fn part(
+    press: &mut Press,
+    watches: &Watches,
+    user: &Text,
+    socket: u64,
+    made: &mut Made,
+) -> Result<(), Memory>
+    requires { HasOwners watches.now }
+    ensures { OnOk result (made.new ≡ made.old ++ farewell watches.now socket user.now) }
+{
+    if watches.has_other(socket, user) || watches.watchers(user) == 0 {
+        return Ok(());
+    }
+    let printed = change(press, user, false)?;
+    tell(watches, user, &printed, Some(socket), made)
 }

@@ -17,13 +17,7 @@ impl UserShard {
     pub(crate) fn terminate(&mut self, user: &Text) -> Result<UserAnswer, Memory>
         ensures { MatchResult result (λ answer. TerminateGives self.old self.new user.now answer) (λ _. IsUnchanged self.old self.new) }
     {
-        let made = for_sockets(
-            self.alloc,
-            &mut self.press,
-            &self.watches,
-            user,
-            Frame::Kill,
-        )?;
+        let made = for_sockets(&mut self.press, &self.watches, user, Frame::Kill)?;
         made.reserve(&mut self.outbox)?;
         made.deliver(&mut self.outbox);
         let count = self.watches.sockets(user);
@@ -39,7 +33,7 @@ impl UserShard {
         ensures { MatchResult result (λ answer. SendToGives self.old self.new user.now event.now body.now answer) (λ _. IsUnchanged self.old self.new) }
     {
         let frame = event_frame(self.alloc, user, event, body)?;
-        let made = for_sockets(self.alloc, &mut self.press, &self.watches, user, frame)?;
+        let made = for_sockets(&mut self.press, &self.watches, user, frame)?;
         made.reserve(&mut self.outbox)?;
         made.deliver(&mut self.outbox);
         let count = self.watches.sockets(user);
@@ -54,9 +48,8 @@ impl UserShard {
     }
 }
 
-/// The frame for each socket of the user, printed once for all of them.
+/// The frame for each socket of the user.
 fn for_sockets(
-    alloc: Global,
     press: &mut Press,
     watches: &Watches,
     user: &Text,
@@ -66,7 +59,7 @@ fn for_sockets(
     requires timeless { is_opened frame ≡ false }
     ensures { IfOk result (λ made. made ≡ map (to_socket frame) (of_user watches.now.signs user.now)) }
 {
-    let mut made = Made::new(alloc);
+    let mut made = Made::new(press.alloc());
     let count = watches.sockets(user);
     if count == 0 {
         return Ok(made);

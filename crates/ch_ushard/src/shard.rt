@@ -8,13 +8,14 @@ use ch_watch::Watches;
 use std::alloc::Global;
 use std::marker::Model;
 
-/// A user shard, by plain lists of its sign-ins, its watches and each caller's waiting frames.
+/// A user shard, by plain lists of its sign-ins, its watches and each caller's waiting frames, with the press for the
+/// frames of each call.
 #[derive(Drop)]
 pub struct UserShard {
     pub(crate) alloc: Global,
     pub(crate) watches: Watches,
-    pub(crate) outbox: Outbox,
     pub(crate) press: Press,
+    pub(crate) outbox: Outbox,
 }
 
 impl Model for UserShard {
@@ -43,8 +44,8 @@ impl UserShard {
         Ok(UserShard {
             alloc,
             watches: Watches::new(alloc),
-            outbox: Outbox::new(alloc),
             press: Press::new(alloc),
+            outbox: Outbox::new(alloc),
         })
     }
 
@@ -90,8 +91,7 @@ impl UserShard {
         self.watches.open_signs()
     }
 
-    /// How many texts of frames it has printed so far; at most 2^64 - 1. A frame is printed once, however many sockets
-    /// get it.
+    /// How many texts of frames the shard has printed so far: one for each frame of a call, however many sockets get it.
     pub fn texts(&self) -> u64 {
         self.press.texts()
     }

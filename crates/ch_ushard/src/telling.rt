@@ -10,42 +10,31 @@ use crate::made::Made;
 use ch_base::{Frame, Memory, Printed, Text};
 use ch_print::Press;
 use ch_watch::{Holder, Watches};
-use std::alloc::Global;
 use std::sync::Arc;
 
 /// What tells the watchers of the user that it is online, where no socket is signed in as the user yet.
-pub fn greeting(
-    alloc: Global,
-    press: &mut Press,
-    watches: &Watches,
-    user: &Text,
-) -> Result<Made, Memory>
+pub fn greeting(press: &mut Press, watches: &Watches, user: &Text) -> Result<Made, Memory>
     requires { HasOwners watches.now }
     ensures { IfOk result (λ made. made ≡ tell_watchers true watches.now.signs watches.now.watches user.now) }
 {
-    let mut made = Made::new(alloc);
+    let mut made = Made::new(press.alloc());
     if watches.is_online(user) || watches.watchers(user) == 0 {
         return Ok(made);
     }
-    let printed = change(alloc, press, user, true)?;
+    let printed = change(press, user, true)?;
     tell(watches, user, &printed, None, &mut made)?;
     Ok(made)
 }
 
 /// The frame that tells that the user is online, or offline, which all that are told of it share.
-pub fn change(
-    alloc: Global,
-    press: &mut Press,
-    user: &Text,
-    online: bool,
-) -> Result<Arc<Printed>, Memory>
+pub fn change(press: &mut Press, user: &Text, online: bool) -> Result<Arc<Printed>, Memory>
     ensures { IfOk result (λ printed. arc_value printed ≡ Watch online user.now) }
 {
-    let user_id = user.copy(alloc)?;
+    let user_id = user.copy(press.alloc())?;
     press.print(Frame::Watch { online, user_id })
 }
 
-/// Gives each watcher of the user but the excepted socket the frame.
+/// Adds the frame for each watcher of the user but the excepted socket.
 pub fn tell(
     watches: &Watches,
     user: &Text,
@@ -62,7 +51,7 @@ pub fn tell(
     Ok(())
 }
 
-/// Gives the watcher the frame, unless its socket is the excepted one.
+/// Adds the frame for the watcher, unless its socket is the excepted one.
 fn tell_one(
     watcher: Holder,
     printed: &Arc<Printed>,
