@@ -69,7 +69,7 @@ fn tell_chans(
 {
     for k in 0..count {
         let frames = take_chan(bench, k)?;
-        tell_all(alloc, seats, frames.as_slice(), out)?;
+        tell_all(alloc, seats, frames, out)?;
     }
     Ok(())
 }
@@ -91,7 +91,7 @@ fn tell_users(
 {
     for k in 0..count {
         let frames = take_user(bench, k)?;
-        tell_all(alloc, seats, frames.as_slice(), out)?;
+        tell_all(alloc, seats, frames, out)?;
     }
     Ok(())
 }

@@ -4,22 +4,22 @@ ghost use Rattle.ch_transcript.specs.Rounds.{tells, tells_all};
 ghost use Rattle.ch_player.specs.Seats.{AreSeats, SameSessions, Tells};
 
 use crate::seat::Seat;
-use ch_base::{Frame, FrameFor, Memory};
-use ch_socket::{put_end, put_frame};
+use ch_base::{Frame, FrameList, Memory, Shared};
+use ch_socket::{put_end, put_printed};
 use std::alloc::Global;
 
-/// Tells the sockets the frames that were taken for them, one after another.
+/// Tells the sockets the frames that were taken for them, one after another, by their texts.
 pub fn tell_all(
     alloc: Global,
     seats: &mut Vec<Option<Seat>>,
-    frames: &[FrameFor],
+    mut frames: FrameList,
     out: &mut Vec<u8>,
 ) -> Result<(), Memory>
     ensures tells { (sockets : List Socket) → AreSeats seats.old.items sockets →
-        OnOk result (Tells seats.new.items out.old.items out.new.items (tells_all sockets frames.now)) }
+        OnOk result (Tells seats.new.items out.old.items out.new.items (tells_all sockets frames)) }
     ensures sessions { SameSessions seats.old.items seats.new.items }
 {
-    for item in frames {
+    while let Some(item) = frames.take_front() {
         tell(alloc, seats, item, out)?;
     }
     Ok(())
@@ -29,23 +29,25 @@ pub fn tell_all(
 fn tell(
     alloc: Global,
     seats: &mut Vec<Option<Seat>>,
-    item: &FrameFor,
+    item: Shared,
     out: &mut Vec<u8>,
 ) -> Result<(), Memory>
     ensures tells { (sockets : List Socket) → AreSeats seats.old.items sockets →
-        OnOk result (Tells seats.new.items out.old.items out.new.items (tells sockets item.now)) }
+        OnOk result (Tells seats.new.items out.old.items out.new.items (tells sockets item)) }
     ensures sessions { SameSessions seats.old.items seats.new.items }
 {
-    if !is_live(seats.as_slice(), item.socket) {
+    let number = item.socket();
+    if !is_live(seats.as_slice(), number) {
         return Ok(());
     }
-    match &item.frame {
+    let printed = item.into_printed();
+    match printed.frame() {
         Frame::Kill => {
-            put_end(alloc, out, item.socket, 4009)?;
-            close(seats, item.socket);
+            put_end(alloc, out, number, 4009)?;
+            close(seats, number);
             Ok(())
         }
-        frame => put_frame(alloc, out, item.socket, frame),
+        _ => put_printed(alloc, out, number, &printed),
     }
 }
 

@@ -13,5 +13,5 @@ mod turns;
 
 pub use hearing::hear;
 pub use losing::lose;
-pub use printing::{put, put_end, put_error, put_frame};
+pub use printing::{put, put_end, put_error, put_frame, put_printed};
 pub use ticking::tick;

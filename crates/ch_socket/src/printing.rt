@@ -3,7 +3,7 @@ ghost use Rattle.std.specs.Fmt.{decimal};
 ghost use Rattle.ch_base.specs.declared.frame.Frame.{Frame};
 ghost use Rattle.ch_transcript.specs.Printing.{socket_line, frame_line, close_line, end_lines, sent_line};
 
-use ch_base::{ChanAnswer, Frame, Memory, Text};
+use ch_base::{ChanAnswer, Frame, Memory, Printed, Text};
 use ch_frames::print;
 use ch_transcript::START_SECOND;
 use std::alloc::Global;
@@ -40,6 +40,19 @@ pub fn put_frame(alloc: Global, out: &mut Vec<u8>, number: u64, frame: &Frame) -
 {
     let text = print(alloc, frame, START_SECOND)?;
     put_line(alloc, out, number, text.as_str())
+}
+
+/// Adds the line of a frame that a socket is sent, by its text.
+pub fn put_printed(
+    alloc: Global,
+    out: &mut Vec<u8>,
+    number: u64,
+    printed: &Printed,
+) -> Result<(), Memory>
+    ensures ok { OnOk result (out.new.items ≡ out.old.items ++ frame_line number printed.now) }
+    ensures err { OnErr result (out.new.items ≡ out.old.items) }
+{
+    put_line(alloc, out, number, printed.text().as_str())
 }
 
 /// Adds the line of an error that a socket is sent.

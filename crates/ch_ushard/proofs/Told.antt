@@ -7,6 +7,7 @@ use Rattle.std.proofs.lemmas.Option.{get_or_from_slice_get, slice_get_within}
 use Rattle.ch_base.specs.declared.frame.Frame.{Frame}
 use Rattle.ch_base.specs.declared.frame.Frame.TheVariants.{Watch}
 use Rattle.ch_history.specs.declared.rows.UserSocket.{UserSocket}
+use Rattle.ch_history.specs.declared.rows.Delivery.{Delivery}
 use Rattle.ch_history.specs.Deliveries.{delivery}
 use Rattle.ch_history.specs.Frames.{is_other}
 use Rattle.ch_history.specs.SignIns.{user_socket, of_user, has_any}
@@ -57,6 +58,23 @@ owner_below xs user i r is all = All-at (λ r. r.owner < 64) (of_user xs user) i
 keep_all : (xs : List UserSocket) → filter (λ r. true) xs ≡ xs
 keep_all [] = refl
 keep_all (x ∷ xs) = ap (λ ys. x ∷ ys) (keep_all xs)
+
+-- where a socket is signed in as the user, nobody hears of it
+pub tells_none : (online : Bool) (signs seen : List UserSocket) (user : List ℕ) → has_any signs user ≡ true → tell_watchers online signs seen user ≡ []
+tells_none online signs seen user there = ap (λ b. cond b [] (map (to_socket (Watch online user)) (of_user seen user))) there
+
+-- where no socket watches the user, nobody hears of it
+pub tells_nobody : (online : Bool) (signs seen : List UserSocket) (user : List ℕ) → of_user seen user ≡ [] → tell_watchers online signs seen user ≡ []
+tells_nobody online signs seen user none =
+    let f : UserSocket → Delivery = to_socket (Watch online user) in
+    ap (λ rs. cond (has_any signs user) [] (map f rs)) none
+    ∙ elim (has_any signs user) as (λ b. cond b [] (map f []) ≡ []) [ true ↦ refl | false ↦ refl ]
+
+-- where no socket watches the user, none does without the socket
+pub unwatched_still : (seen : List UserSocket) (socket : ℕ) (user : List ℕ) → of_user seen user ≡ [] → of_user (without seen socket) user ≡ []
+unwatched_still seen socket user none =
+    let kept : UserSocket → Bool = λ r. not (r.socket == socket) in
+    sym (filter-swap kept (λ r. bytes_eq r.user user) seen) ∙ ap (filter kept) none
 
 -- where no socket is signed in as the user yet, each watcher hears of it
 pub tells_all : (signs seen : List UserSocket) (user : List ℕ) → has_any signs user ≡ false → told (Watch true user) None (of_user seen user) ≡ tell_watchers true signs seen user

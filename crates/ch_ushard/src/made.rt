@@ -1,15 +1,17 @@
 ghost use Rattle.std.specs.Prelude.{◌≡◌, ℕ, ◌<◌, [], ◌∷◌, ◌++◌, OnOk};
+ghost use Rattle.std.specs.Arc.{arc_value};
 ghost use Rattle.ch_history.specs.Deliveries.{delivery, for_owner};
 ghost use Rattle.ch_outbox.specs.Outbox.{frames_of};
 ghost use Rattle.ch_ushard.specs.Made.{HasRoom};
 
 use crate::deliveries::{deliver, reserve_for};
-use ch_base::{Frame, FrameFor, Memory};
+use ch_base::{Memory, Printed, Shared};
 use ch_history::Delivery;
 use ch_outbox::Outbox;
 use ch_watch::Holder;
 use std::alloc::Global;
 use std::marker::Model;
+use std::sync::Arc;
 
 /// The frames that a call makes, each with its owner, a number below 64.
 #[derive(Drop)]
@@ -38,17 +40,15 @@ impl Made {
         }
     }
 
-    /// Adds a frame for the socket.
-    pub fn push(&mut self, holder: Holder, frame: Frame) -> Result<(), Memory>
+    /// Adds the frame for the socket, which shares it with the others that get it.
+    pub fn push(&mut self, holder: Holder, printed: &Arc<Printed>) -> Result<(), Memory>
         requires { holder.owner < 64 }
-        ensures { OnOk result (self.new ≡ self.old ++ delivery holder.owner holder.socket frame ∷ []) }
+        ensures { OnOk result (self.new ≡ self.old ++ delivery holder.owner holder.socket (arc_value printed.now) ∷ []) }
     {
+        let printed = Arc::try_clone(printed)?;
         self.frames.push(Delivery {
             owner: holder.owner,
-            item: FrameFor {
-                socket: holder.socket,
-                frame,
-            },
+            item: Shared::new(holder.socket, printed),
         })?;
         Ok(())
     }

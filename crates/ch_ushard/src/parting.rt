@@ -5,16 +5,16 @@ ghost use Rattle.ch_ushard.specs.Made.{HasOwners, farewell};
 
 use crate::made::Made;
 use crate::shard::UserShard;
-use crate::telling::tell;
+use crate::telling::{change, tell};
 use ch_base::{Memory, Text, UserAnswer};
+use ch_print::Press;
 use ch_watch::Watches;
-use std::alloc::Global;
 
 impl UserShard {
     pub(crate) fn lost(&mut self, socket: u64) -> Result<UserAnswer, Memory>
         ensures { MatchResult result (λ answer. LostGives self.old self.new socket answer) (λ _. IsUnchanged self.old self.new) }
     {
-        let made = farewells(self.alloc, &self.watches, socket)?;
+        let made = farewells(&mut self.press, &self.watches, socket)?;
         made.reserve(&mut self.outbox)?;
         let (signs, watches) = self.watches.lost(socket);
         made.deliver(&mut self.outbox);
@@ -23,19 +23,14 @@ impl UserShard {
 }
 
 /// What the loss of the socket makes: the ends of its sign-ins, ascending by user.
-fn farewells(alloc: Global, watches: &Watches, socket: u64) -> Result<Made, Memory>
+fn farewells(press: &mut Press, watches: &Watches, socket: u64) -> Result<Made, Memory>
     requires { HasOwners watches.now }
     ensures { IfOk result (λ made. made ≡ flat_map (farewell watches.now socket) (users_of watches.now.signs socket)) }
 {
-    let mut made = Made::new(alloc);
+    let mut made = Made::new(press.alloc());
     for i in 0..watches.users_of(socket) {
-        part(
-            alloc,
-            watches,
-            watches.user_of(socket, i),
-            socket,
-            &mut made,
-        )?;
+        let user = watches.user_of(socket, i);
+        part(press, watches, user, socket, &mut made)?;
     }
     Ok(made)
 }
@@ -43,7 +38,7 @@ fn farewells(alloc: Global, watches: &Watches, socket: u64) -> Result<Made, Memo
 /// Where no other socket is signed in as the user, tells the other watchers of the user that it is
 /// offline. The watches of the socket itself have ended before its sign-ins do.
 fn part(
-    alloc: Global,
+    press: &mut Press,
     watches: &Watches,
     user: &Text,
     socket: u64,
@@ -52,8 +47,9 @@ fn part(
     requires { HasOwners watches.now }
     ensures { OnOk result (made.new ≡ made.old ++ farewell watches.now socket user.now) }
 {
-    if watches.has_other(socket, user) {
+    if watches.has_other(socket, user) || watches.watchers(user) == 0 {
         return Ok(());
     }
-    tell(alloc, watches, user, false, Some(socket), made)
+    let printed = change(press, user, false)?;
+    tell(watches, user, &printed, Some(socket), made)
 }

@@ -1,5 +1,6 @@
-ghost use Rattle.std.specs.Prelude.{◌≡◌, ◌<◌, None, IfOk, MatchResult, map};
-ghost use Rattle.ch_base.specs.declared.frame.Frame.TheVariants.{Event, Kill};
+ghost use Rattle.std.specs.Prelude.{◌≡◌, ◌<◌, None, false, IfOk, MatchResult, map};
+ghost use Rattle.ch_base.specs.Printed.{is_opened};
+ghost use Rattle.ch_base.specs.declared.frame.Frame.TheVariants.{Event};
 ghost use Rattle.ch_history.specs.SignIns.{of_user};
 ghost use Rattle.ch_history.specs.UserFrames.{to_socket, user_channel};
 ghost use Rattle.ch_ushard.specs.Kept.{IsUnchanged, TerminateGives, SendToGives, TakeGives};
@@ -8,6 +9,7 @@ ghost use Rattle.ch_ushard.specs.Made.{HasOwners};
 use crate::made::Made;
 use crate::shard::UserShard;
 use ch_base::{Frame, Memory, Text, UserAnswer};
+use ch_print::Press;
 use ch_watch::Watches;
 use std::alloc::Global;
 
@@ -15,7 +17,7 @@ impl UserShard {
     pub(crate) fn terminate(&mut self, user: &Text) -> Result<UserAnswer, Memory>
         ensures { MatchResult result (λ answer. TerminateGives self.old self.new user.now answer) (λ _. IsUnchanged self.old self.new) }
     {
-        let made = kills(self.alloc, &self.watches, user)?;
+        let made = for_sockets(&mut self.press, &self.watches, user, Frame::Kill)?;
         made.reserve(&mut self.outbox)?;
         made.deliver(&mut self.outbox);
         let count = self.watches.sockets(user);
@@ -30,7 +32,8 @@ impl UserShard {
     ) -> Result<UserAnswer, Memory>
         ensures { MatchResult result (λ answer. SendToGives self.old self.new user.now event.now body.now answer) (λ _. IsUnchanged self.old self.new) }
     {
-        let made = events(self.alloc, &self.watches, user, event, body)?;
+        let frame = event_frame(self.alloc, user, event, body)?;
+        let made = for_sockets(&mut self.press, &self.watches, user, frame)?;
         made.reserve(&mut self.outbox)?;
         made.deliver(&mut self.outbox);
         let count = self.watches.sockets(user);
@@ -45,33 +48,25 @@ impl UserShard {
     }
 }
 
-/// The frame that closes the connection, for each socket of the user.
-fn kills(alloc: Global, watches: &Watches, user: &Text) -> Result<Made, Memory>
-    requires { HasOwners watches.now }
-    ensures { IfOk result (λ made. made ≡ map (to_socket Kill) (of_user watches.now.signs user.now)) }
-{
-    let mut made = Made::new(alloc);
-    for i in 0..watches.sockets(user) {
-        made.push(watches.socket(user, i), Frame::Kill)?;
-    }
-    Ok(made)
-}
-
-/// The event, for each socket of the user.
-fn events(
-    alloc: Global,
+/// The frame for each socket of the user.
+fn for_sockets(
+    press: &mut Press,
     watches: &Watches,
     user: &Text,
-    event: &Text,
-    body: &Text,
+    frame: Frame,
 ) -> Result<Made, Memory>
-    requires { HasOwners watches.now }
-    ensures { IfOk result (λ made. made ≡ map (to_socket (Event (user_channel user.now) event.now body.now None)) (of_user watches.now.signs user.now)) }
+    requires owners { HasOwners watches.now }
+    requires timeless { is_opened frame ≡ false }
+    ensures { IfOk result (λ made. made ≡ map (to_socket frame) (of_user watches.now.signs user.now)) }
 {
-    let mut made = Made::new(alloc);
-    for i in 0..watches.sockets(user) {
-        let frame = event_frame(alloc, user, event, body)?;
-        made.push(watches.socket(user, i), frame)?;
+    let mut made = Made::new(press.alloc());
+    let count = watches.sockets(user);
+    if count == 0 {
+        return Ok(made);
+    }
+    let printed = press.print(frame)?;
+    for i in 0..count {
+        made.push(watches.socket(user, i), &printed)?;
     }
     Ok(made)
 }

@@ -3,15 +3,18 @@ ghost use Rattle.ch_base.specs.Growth.{entry};
 
 use ch_base::{Memory, UserAnswer, UserCall};
 use ch_outbox::Outbox;
+use ch_print::Press;
 use ch_watch::Watches;
 use std::alloc::Global;
 use std::marker::Model;
 
-/// A user shard, by plain lists of its sign-ins, its watches and each caller's waiting frames.
+/// A user shard, by plain lists of its sign-ins, its watches and each caller's waiting frames, with the press for the
+/// frames of each call.
 #[derive(Drop)]
 pub struct UserShard {
     pub(crate) alloc: Global,
     pub(crate) watches: Watches,
+    pub(crate) press: Press,
     pub(crate) outbox: Outbox,
 }
 
@@ -41,6 +44,7 @@ impl UserShard {
         Ok(UserShard {
             alloc,
             watches: Watches::new(alloc),
+            press: Press::new(alloc),
             outbox: Outbox::new(alloc),
         })
     }
@@ -85,5 +89,10 @@ impl UserShard {
         ensures { (h : UserHistory) → Stands self.now h → result ≡ min (open_signs h) (2 ^ 64 - 1) }
     {
         self.watches.open_signs()
+    }
+
+    /// How many texts of frames the shard has printed so far: one for each frame of a call, however many sockets get it.
+    pub fn texts(&self) -> u64 {
+        self.press.texts()
     }
 }

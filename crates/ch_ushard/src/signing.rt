@@ -6,10 +6,10 @@ ghost use Rattle.ch_ushard.specs.Kept.{IsUnchanged, SignInGives, WatchGives};
 
 use crate::made::Made;
 use crate::shard::UserShard;
-use crate::telling::greeting;
-use ch_base::{Frame, Memory, Text, UserAnswer};
+use crate::telling::{change, greeting};
+use ch_base::{Memory, Text, UserAnswer};
+use ch_print::Press;
 use ch_watch::{Holder, Watches};
-use std::alloc::Global;
 
 impl UserShard {
     pub(crate) fn sign_in(
@@ -24,7 +24,7 @@ impl UserShard {
         if self.watches.is_signed_in(socket, user) {
             return Ok(UserAnswer::AlreadyIn);
         }
-        let made = greeting(self.alloc, &self.watches, user)?;
+        let made = greeting(&mut self.press, &self.watches, user)?;
         made.reserve(&mut self.outbox)?;
         self.watches.sign_in(socket, user, caller)?;
         made.deliver(&mut self.outbox);
@@ -47,7 +47,7 @@ impl UserShard {
             socket,
             owner: caller,
         };
-        let made = first_word(self.alloc, &self.watches, watcher, watched)?;
+        let made = first_word(&mut self.press, &self.watches, watcher, watched)?;
         made.reserve(&mut self.outbox)?;
         self.watches.watch(socket, watched, caller)?;
         made.deliver(&mut self.outbox);
@@ -57,7 +57,7 @@ impl UserShard {
 
 /// What tells a new watcher that the user is online, where it is.
 fn first_word(
-    alloc: Global,
+    press: &mut Press,
     watches: &Watches,
     watcher: Holder,
     user: &Text,
@@ -65,11 +65,10 @@ fn first_word(
     requires { watcher.owner < 64 }
     ensures { IfOk result (λ made. made ≡ (if has_any watches.now.signs user.now then delivery watcher.owner watcher.socket (Watch true user.now) ∷ [] else [])) }
 {
-    let mut made = Made::new(alloc);
+    let mut made = Made::new(press.alloc());
     if watches.is_online(user) {
-        let user_id = user.copy(alloc)?;
-        let online = true;
-        made.push(watcher, Frame::Watch { online, user_id })?;
+        let printed = change(press, user, true)?;
+        made.push(watcher, &printed)?;
     }
     Ok(made)
 }

@@ -1,4 +1,5 @@
 ghost use Rattle.std.specs.Prelude.{◌≡◌, ◌++◌, true, IfOk, OnOk, ◌<◌};
+ghost use Rattle.std.specs.Arc.{arc_value};
 ghost use Rattle.ch_base.specs.declared.frame.Frame.TheVariants.{Watch};
 ghost use Rattle.ch_history.specs.Frames.{is_other};
 ghost use Rattle.ch_history.specs.SignIns.{of_user};
@@ -6,56 +7,62 @@ ghost use Rattle.ch_history.specs.UserFrames.{tell_watchers};
 ghost use Rattle.ch_ushard.specs.Made.{HasOwners, told, told_one};
 
 use crate::made::Made;
-use ch_base::{Frame, Memory, Text};
+use ch_base::{Frame, Memory, Printed, Text};
+use ch_print::Press;
 use ch_watch::{Holder, Watches};
-use std::alloc::Global;
+use std::sync::Arc;
 
 /// What tells the watchers of the user that it is online, where no socket is signed in as the user yet.
-pub fn greeting(alloc: Global, watches: &Watches, user: &Text) -> Result<Made, Memory>
+pub fn greeting(press: &mut Press, watches: &Watches, user: &Text) -> Result<Made, Memory>
     requires { HasOwners watches.now }
     ensures { IfOk result (λ made. made ≡ tell_watchers true watches.now.signs watches.now.watches user.now) }
 {
-    let mut made = Made::new(alloc);
-    if watches.is_online(user) {
+    let mut made = Made::new(press.alloc());
+    if watches.is_online(user) || watches.watchers(user) == 0 {
         return Ok(made);
     }
-    tell(alloc, watches, user, true, None, &mut made)?;
+    let printed = change(press, user, true)?;
+    tell(watches, user, &printed, None, &mut made)?;
     Ok(made)
 }
 
-/// Tells each watcher of the user but the excepted socket that the user is online, or offline.
+/// The frame that tells that the user is online, or offline, which all that are told of it share.
+pub fn change(press: &mut Press, user: &Text, online: bool) -> Result<Arc<Printed>, Memory>
+    ensures { IfOk result (λ printed. arc_value printed ≡ Watch online user.now) }
+{
+    let user_id = user.copy(press.alloc())?;
+    press.print(Frame::Watch { online, user_id })
+}
+
+/// Adds the frame for each watcher of the user but the excepted socket.
 pub fn tell(
-    alloc: Global,
     watches: &Watches,
     user: &Text,
-    online: bool,
+    printed: &Arc<Printed>,
     except: Option<u64>,
     made: &mut Made,
 ) -> Result<(), Memory>
     requires { HasOwners watches.now }
-    ensures { OnOk result (made.new ≡ made.old ++ told (Watch online user.now) except (of_user watches.now.watches user.now)) }
+    ensures { OnOk result (made.new ≡ made.old ++ told (arc_value printed.now) except (of_user watches.now.watches user.now)) }
 {
     for i in 0..watches.watchers(user) {
-        tell_one(alloc, watches.watcher(user, i), user, online, except, made)?;
+        tell_one(watches.watcher(user, i), printed, except, made)?;
     }
     Ok(())
 }
 
-/// Tells the watcher, unless its socket is the excepted one.
+/// Adds the frame for the watcher, unless its socket is the excepted one.
 fn tell_one(
-    alloc: Global,
     watcher: Holder,
-    user: &Text,
-    online: bool,
+    printed: &Arc<Printed>,
     except: Option<u64>,
     made: &mut Made,
 ) -> Result<(), Memory>
     requires { watcher.owner < 64 }
-    ensures { OnOk result (made.new ≡ made.old ++ told_one (Watch online user.now) except watcher.owner watcher.socket) }
+    ensures { OnOk result (made.new ≡ made.old ++ told_one (arc_value printed.now) except watcher.owner watcher.socket) }
 {
     if is_other(except, watcher.socket) {
-        let user_id = user.copy(alloc)?;
-        made.push(watcher, Frame::Watch { online, user_id })?;
+        made.push(watcher, printed)?;
     }
     Ok(())
 }

@@ -3,7 +3,7 @@ ghost use Rattle.std.specs.Prelude.{◌<◌, IfOk, IsTrue};
 ghost use Rattle.ch_history.specs.Limits.{IsSocket, is_user_id};
 ghost use Rattle.ch_history.specs.UserLegal.{IsUserWellFormed};
 
-use ch_base::{Frame, FrameFor, Memory, Text, UserAnswer, UserCall};
+use ch_base::{Frame, Memory, Shared, Text, UserAnswer, UserCall};
 use ch_ushard::UserShard;
 use std::alloc::Global;
 use std::test::Fail;
@@ -81,9 +81,9 @@ fn caller(letter: u8) -> u64
     }
 }
 
-fn frame_words(alloc: Global, item: &FrameFor) -> Result<String, Fail> {
-    let socket = item.socket;
-    let words = match &item.frame {
+fn frame_words(alloc: Global, item: &Shared) -> Result<String, Fail> {
+    let socket = item.socket();
+    let words = match item.frame() {
         Frame::Watch { online, user_id } => {
             format!(in alloc; "{socket} {} {online} ", user_id.as_str())?
         }
@@ -95,11 +95,11 @@ fn frame_words(alloc: Global, item: &FrameFor) -> Result<String, Fail> {
 }
 
 /// Adds an answer, in words.
-fn push_answer(alloc: Global, words: &mut String, answer: &UserAnswer) -> Result<(), Fail> {
+fn push_answer(alloc: Global, words: &mut String, answer: UserAnswer) -> Result<(), Fail> {
     match answer {
-        UserAnswer::Frames(frames) => {
-            for item in frames.as_slice() {
-                let text = frame_words(alloc, item)?;
+        UserAnswer::Frames(mut frames) => {
+            while let Some(item) = frames.take_front() {
+                let text = frame_words(alloc, &item)?;
                 words.push_str(text.as_str())?;
             }
         }
@@ -118,7 +118,7 @@ fn told(alloc: Global, letters: &[u8]) -> Result<String, Fail> {
     let mut words = String::new(alloc);
     for letter in letters {
         let answer = shard.apply(caller(*letter), &call(alloc, *letter)?)?;
-        push_answer(alloc, &mut words, &answer)?;
+        push_answer(alloc, &mut words, answer)?;
     }
     let open = format!(in alloc; "{}", shard.open_signs())?;
     words.push_str(open.as_str())?;
@@ -133,5 +133,16 @@ fn calls_are_answered(rt: HostRuntime) -> Result<(), Fail> {
         got.as_str(),
         "SignedIn; Watching; AlreadyWatching; Watching; SignedIn; AlreadyIn; SignedIn; AlreadyIn; 1 me true 1 w true ; SentTo { count: 2 }; Killed { count: 2 }; 3 #server-to-user-w 3 kill ; Gone { signs: 1, watches: 2 }; 2"
     );
+    Ok(())
+}
+
+#[test]
+fn a_frame_of_two_sockets_is_printed_once(rt: HostRuntime) -> Result<(), Fail> {
+    let alloc: Global = rt.alloc();
+    let mut shard = UserShard::new(alloc)?;
+    for letter in b"23E" {
+        shard.apply(caller(*letter), &call(alloc, *letter)?)?;
+    }
+    assert_eq!(rt; shard.texts(), 1);
     Ok(())
 }

@@ -20,8 +20,8 @@ loop-k-preserved c =
       told = λ sockets shards are at.
           let first = so_far.told sockets shards are at in
           let below : k < length old.shards = omega (arith, c.loop-k-test.true, c.requires) in
-          let is = c.as_slice.ensures ∙ taken.taken.frames_are ∙ ap (λ h. waiting h 0) (so_far.left k (omega arith) ∙ at.chans k below) in
-          Tells-shard c.tell_all.new.seats.items c.args.out.now.items c.loop-k.out.items c.tell_all.new.out.items sockets (λ j. waiting (shards.chans j) 0) k c.as_slice.result.now is
+          let is = taken.taken.frames_are ∙ ap (λ h. waiting h 0) (so_far.left k (omega arith) ∙ at.chans k below) in
+          Tells-shard c.tell_all.new.seats.items c.args.out.now.items c.loop-k.out.items c.tell_all.new.out.items sockets (λ j. waiting (shards.chans j) 0) k c.in_ok-frames.frames is
           first.text (c.in_ok-tell_all.ensures.tells _ first.seats);
       done = done-next (λ h. with_call h Take) (seen old) (seen c.loop-k.bench) (seen c.take_chan.new.bench) k taken.elsewhere so_far.left taken.taken.taken so_far.done;
       left = left-next (λ h. with_call h Take) (seen old) (seen c.loop-k.bench) (seen c.take_chan.new.bench) k taken.elsewhere so_far.left;

@@ -1,5 +1,6 @@
 use Rattle.std.proofs.Common.{◌∙◌, ◌++◌, List, ap, sym, take, append_assoc}
-use Rattle.ch_base.specs.declared.frame.Frame.TheVariants.{Watch}
+use Rattle.std.specs.Arc.{arc_value}
+use Rattle.ch_base.specs.declared.frame.Frame.{Frame}
 use Rattle.ch_history.specs.declared.rows.Delivery.{Delivery}
 use Rattle.ch_history.specs.SignIns.{of_user}
 use Rattle.ch_ushard.specs.Made.{told, told_one}
@@ -11,7 +12,7 @@ tell_one-requires c = owner_below c.args.watches.now.watches c.args.user.now c.l
 
 pub loop-i-preserved : goal.loop-i-preserved
 loop-i-preserved c =
-    let frame = Watch c.args.online c.args.user.now in
+    let frame : Frame = arc_value c.args.printed.now in
     let xs = of_user c.args.watches.now.watches c.args.user.now in
     let before : List Delivery = told frame c.args.except (take c.loop-i.i xs) in
     let one : List Delivery = told_one frame c.args.except c.watcher.result.owner c.watcher.result.socket in
