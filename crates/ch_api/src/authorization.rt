@@ -6,7 +6,6 @@ ghost use Rattle.std.specs.Option.{option_copied};
 ghost use Rattle.std.specs.Str.Parse.{digits_value};
 ghost use Rattle.ch_requests.specs.Authorization.{is_authorized, is_value, is_near, is_timestamp, difference, is_digest, signature_of};
 ghost use Rattle.ch_requests.specs.Routes.{method_of};
-ghost use Rattle.ch_requests.specs.declared.limits.TheConstants.{MAX_DIFFERENCE};
 ghost use Rattle.ch_sig.specs.Parameters.{value_of};
 
 use ch_base::Text;

@@ -4,7 +4,6 @@ ghost use Rattle.ch_base.specs.JsonTree.{Tree, Members};
 ghost use Rattle.ch_json.specs.NodeOf.{IsNode, IsObject};
 ghost use Rattle.ch_history.specs.WellFormed.{IsMember};
 ghost use Rattle.ch_protocol.specs.ChannelData.{IsIdOf, HasId, TellsMember};
-ghost use Rattle.ch_protocol.specs.declared.limits.TheConstants.{LONGEST_CHANNEL_DATA};
 ghost use Rattle.ch_members.specs.Readings.{Gives, IsValue, IsObjectOf, IsObjectDoc};
 ghost use Rattle.ch_frames.specs.Ids.{Told};
 

@@ -1,7 +1,6 @@
 ghost use Rattle.std.specs.Prelude.{◌≡◌, ◌≤◌, length, take};
 ghost use Rattle.std.specs.List.{count_by};
 ghost use Rattle.ch_requests.specs.Heads.{first_bytes, first_lines, is_full, is_line_end};
-ghost use Rattle.ch_requests.specs.declared.limits.TheConstants.{MOST_LINES};
 
 use ch_requests::{LONGEST_HEAD, MOST_LINES};
 

@@ -2,7 +2,6 @@ ghost use Rattle.std.specs.Prelude.{◌≡◌, ◌≤◌, IfOk, IsUtf8, All, len
 ghost use Rattle.std.specs.List.{count_by};
 ghost use Rattle.httparse.specs.Spans.{IsWithin, IsHeaderWithin, IsRequestWithin, IsRequestOf, span_bytes};
 ghost use Rattle.ch_requests.specs.Heads.{IsHeading, is_line_end, whole};
-ghost use Rattle.ch_requests.specs.declared.limits.TheConstants.{MOST_LINES};
 ghost use Rattle.ch_http.specs.Headings.{IsHeadingOf, HasTextName, field_at};
 
 use crate::place::ends_in_target;

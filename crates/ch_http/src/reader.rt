@@ -1,6 +1,5 @@
 ghost use Rattle.std.specs.Prelude.{◌≡◌, ◌+◌, ◌≤◌, [], ◌++◌, nat_le, length, drop, IfOk, OnOk, OnErr};
 ghost use Rattle.ch_requests.specs.Verdict.{IsVerdict, in_time};
-ghost use Rattle.ch_requests.specs.declared.limits.TheConstants.{LONGEST_WAIT};
 
 use crate::verdict::judge;
 use ch_base::{Bytes, Memory, Text};

@@ -7,7 +7,6 @@ ghost use Rattle.ch_protocol.specs.ClientMessages.{is_subscribable};
 ghost use Rattle.ch_protocol.specs.Settling.{SettledAsk};
 ghost use Rattle.ch_protocol.specs.Sessions.{judged, judged_as, subscribes, unsubscribes, is_given};
 ghost use Rattle.ch_protocol.specs.UserChannels.{channel_user, is_user_channel};
-ghost use Rattle.ch_protocol.specs.declared.error_codes.TheConstants.{INVALID_SIGNATURE, OUT_OF_MEMORY};
 ghost use Rattle.ch_session.specs.Judging.{known, asks_of, user_data_in, user_data_of, IsSoundAsk, IsJoinerBy, IsJoiner, IsGoodReading, IsReady, EndsAsUnauthorized, Hears};
 ghost use Rattle.ch_session.specs.Kept.{IsSession, IsOver};
 ghost use Rattle.ch_session.specs.ReadTexts.{reading_of};

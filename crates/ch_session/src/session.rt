@@ -7,7 +7,6 @@ ghost use Rattle.ch_protocol.specs.Settling.{SettledAsk, settled_with};
 ghost use Rattle.ch_protocol.specs.Sessions.{outcome};
 ghost use Rattle.ch_protocol.specs.Targets.{target_refusal};
 ghost use Rattle.ch_protocol.specs.declared.ask.Ask.{Ask};
-ghost use Rattle.ch_protocol.specs.declared.error_codes.TheConstants.{MALFORMED_MESSAGE};
 ghost use Rattle.ch_session.specs.Judging.{IsSoundAsk};
 ghost use Rattle.ch_session.specs.Kept.{IsSession, IsOver, MaySettle, left_after, losses_left};
 ghost use Rattle.ch_session.specs.Losses.{IsNextUsed, IsNextLoss, loss_at};

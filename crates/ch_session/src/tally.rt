@@ -3,7 +3,6 @@ ghost use Rattle.std.specs.Option.{option_or, option_copied};
 ghost use Rattle.ch_rate.specs.Rate.{IsRateOf, rate_allows};
 ghost use Rattle.ch_protocol.specs.Settling.{count_after};
 ghost use Rattle.ch_protocol.specs.declared.ask.Made.TheVariants.{Chan};
-ghost use Rattle.ch_protocol.specs.declared.limits.TheConstants.{MAX_SUBSCRIPTIONS};
 ghost use Rattle.ch_base.specs.declared.channel.ChanAnswer.TheVariants.{Joined};
 ghost use Rattle.ch_session.specs.Losses.{IsNextUsed};
 ghost use Rattle.ch_session.specs.Told.{accepted_with, used_with};
