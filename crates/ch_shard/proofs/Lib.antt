@@ -3,6 +3,7 @@ pub mod Owners
 pub mod Sounds
 pub mod Partings
 pub mod Greetings
+pub mod Occurring
 pub mod Simulation
 pub mod Stays
 pub mod JoinSteps

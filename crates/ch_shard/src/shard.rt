@@ -65,7 +65,6 @@ impl ChanShard {
             (λ answer. Stands self.new (h ++ entry caller call.now answer ∷ []))
             (λ _. Stands self.new h) }
         ensures take { call.now ≡ ChanCall.Take → IsOk result }
-        ensures take_hooks { (at : ℕ) → call.now ≡ ChanCall.TakeHooks at → IsOk result }
         ensures kind { IfOk result (IsAnswerTo call.now) }
         ensures occupancy { (h : ChanHistory) → Stands self.new h → (c : List ℕ) → OccupancyAlternates h c }
         ensures membership { (h : ChanHistory) → Stands self.new h → (c id : List ℕ) → IsTrue (is_presence c) → MembershipAlternates h c id }
