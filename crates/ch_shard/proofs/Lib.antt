@@ -1,5 +1,6 @@
 pub mod Lists
 pub mod Owners
+pub mod Rooms
 pub mod Sounds
 pub mod Partings
 pub mod Greetings

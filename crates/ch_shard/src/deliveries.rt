@@ -1,27 +1,57 @@
-ghost use Rattle.std.specs.Prelude.{◌≡◌, ℕ, ◌<◌, ◌≤◌, ◌++◌, All, length, vec_len, OnOk};
+ghost use Rattle.std.specs.Prelude.{◌≡◌, ℕ, ◌<◌, ◌≤◌, ◌++◌, All, vec_len, slice_index_or, OnOk};
 ghost use Rattle.ch_history.specs.Deliveries.{for_owner};
 ghost use Rattle.ch_outbox.specs.Outbox.{frames_of, spare_of};
+ghost use Rattle.ch_shard.specs.Room.{count_for, HasRoom};
 
 use ch_base::Memory;
 use ch_history::Delivery;
 use ch_outbox::Outbox;
 
+/// Owners have numbers below this.
+const OWNERS: usize = 64;
+
 /// Makes room for the frames of each owner.
 pub fn reserve_for(outbox: &mut Outbox, made: &[Delivery]) -> Result<(), Memory>
     requires { All (λ d. d.owner < 64) made.now }
     ensures frames { (w : ℕ) → frames_of outbox.new w ≡ frames_of outbox.old w }
-    ensures room { OnOk result (All (λ d. length made.now ≤ spare_of outbox.new d.owner) made.now) }
+    ensures room { OnOk result (HasRoom outbox.new made.now) }
 {
-    for delivery in made {
-        outbox.reserve(delivery.owner, made.len() as u64)?;
+    let counts = owner_counts(made);
+    for owner in 0..OWNERS {
+        reserve_some(outbox, owner as u64, counts[owner])?;
     }
     Ok(())
+}
+
+/// How many of the frames each owner hands over.
+fn owner_counts(made: &[Delivery]) -> [u64; OWNERS]
+    requires { All (λ d. d.owner < 64) made.now }
+    ensures { (w : ℕ) → w < 64 → slice_index_or result w 0 ≡ count_for w made.now }
+{
+    let mut counts = [0; OWNERS];
+    for delivery in made {
+        counts[delivery.owner as usize] += 1;
+    }
+    counts
+}
+
+/// Makes room for n more frames of the owner, where there are any.
+fn reserve_some(outbox: &mut Outbox, owner: u64, n: u64) -> Result<(), Memory>
+    requires { owner < 64 }
+    ensures frames { (w : ℕ) → frames_of outbox.new w ≡ frames_of outbox.old w }
+    ensures spare { (w : ℕ) → spare_of outbox.old w ≤ spare_of outbox.new w }
+    ensures room { OnOk result (n ≤ spare_of outbox.new owner) }
+{
+    if n == 0 {
+        return Ok(());
+    }
+    outbox.reserve(owner, n)
 }
 
 /// Moves each frame to the end of its owner's frames. It takes no memory.
 pub fn deliver(outbox: &mut Outbox, mut made: Vec<Delivery>)
     requires owners { All (λ d. d.owner < 64) made.items }
-    requires room { All (λ d. vec_len made ≤ spare_of outbox.old d.owner) made.items }
+    requires room { HasRoom outbox.old made.items }
     ensures { (w : ℕ) → frames_of outbox.new w ≡ frames_of outbox.old w ++ for_owner w made.items }
 {
     made.reverse();

@@ -2,7 +2,8 @@ ghost use Rattle.std.specs.Prelude.{◌≡◌, ℕ, ◌+◌, ◌<◌, ◌≤◌,
 ghost use Rattle.ch_history.specs.Deliveries.{for_owner};
 ghost use Rattle.ch_history.specs.Held.{due, held_after, hooks_after};
 ghost use Rattle.ch_hooklog.specs.HookLog.{IsOfOneCall};
-ghost use Rattle.ch_outbox.specs.Outbox.{frames_of, spare_of};
+ghost use Rattle.ch_outbox.specs.Outbox.{frames_of};
+ghost use Rattle.ch_shard.specs.Room.{HasRoom};
 
 use crate::deliveries::{deliver, reserve_for};
 use ch_base::{Hook, Memory};
@@ -44,7 +45,7 @@ pub fn make_room(
     ensures hooks { log.new.hooks ≡ log.old.hooks }
     ensures held { log.new.held ≡ log.old.held }
     ensures spare { log.old.spare ≤ log.new.spare }
-    ensures room_frames { OnOk result (All (λ d. vec_len made.now.frames ≤ spare_of outbox.new d.owner) made.now.frames.items) }
+    ensures room_frames { OnOk result (HasRoom outbox.new made.now.frames.items) }
     ensures room_hooks { OnOk result (vec_len made.now.hooks + length (due now log.old.held) ≤ log.new.spare) }
 {
     reserve_for(outbox, made.frames.as_slice())?;
@@ -55,7 +56,7 @@ pub fn make_room(
 /// takes no memory.
 pub fn hand_over(outbox: &mut Outbox, log: &mut HookLog, made: Made, now: u64)
     requires owners { All (λ d. d.owner < 64) made.frames.items }
-    requires room_frames { All (λ d. vec_len made.frames ≤ spare_of outbox.old d.owner) made.frames.items }
+    requires room_frames { HasRoom outbox.old made.frames.items }
     requires room_hooks { vec_len made.hooks + length (due now log.old.held) ≤ log.old.spare }
     requires call { IsOfOneCall made.hooks.items }
     ensures frames { (w : ℕ) → frames_of outbox.new w ≡ frames_of outbox.old w ++ for_owner w made.frames.items }

@@ -1,12 +1,13 @@
-use Rattle.std.proofs.Common.{◌≡◌, ℕ, ◌<◌, ◌≤◌, ◌++◌, All, reverse, vec_len}
+use Rattle.std.proofs.Common.{◌≡◌, ℕ, ◌<◌, ◌++◌, All, reverse, vec_len}
 use Rattle.ch_history.specs.Deliveries.{for_owner}
-use Rattle.ch_outbox.specs.Outbox.{frames_of, spare_of}
+use Rattle.ch_outbox.specs.Outbox.{frames_of}
+use Rattle.ch_shard.specs.Room.{HasRoom}
 use Rattle.ch_shard.proofs.deliveries.deliver.Given as goal
 
 abbrev pub invariant-loop-delivery : goal.invariant-loop-delivery
 invariant-loop-delivery l = record {
   owners : All (λ d. d.owner < 64) l.made.items;
-  room : All (λ d. vec_len l.made ≤ spare_of l.outbox d.owner) l.made.items;
+  room : HasRoom l.outbox (reverse l.made.items);
   so_far : (w : ℕ) → frames_of l.outbox w ++ for_owner w (reverse l.made.items) ≡ frames_of l.initial.outbox w ++ for_owner w (reverse l.initial.made.items);
 }
 

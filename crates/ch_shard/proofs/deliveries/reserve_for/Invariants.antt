@@ -1,9 +1,10 @@
-use Rattle.std.proofs.Common.{◌≡◌, ℕ, ◌≤◌, length, take, All}
+use Rattle.std.proofs.Common.{◌≡◌, ℕ, ◌<◌, ◌≤◌}
 use Rattle.ch_outbox.specs.Outbox.{frames_of, spare_of}
+use Rattle.ch_shard.specs.Room.{count_for}
 use Rattle.ch_shard.proofs.deliveries.reserve_for.Given as goal
 
-abbrev pub invariant-loop-delivery : goal.invariant-loop-delivery
-invariant-loop-delivery l = record {
+abbrev pub invariant-loop-owner : goal.invariant-loop-owner
+invariant-loop-owner l = record {
   frames : (w : ℕ) → frames_of l.outbox w ≡ frames_of l.initial.outbox w;
-  room : All (λ d. length l.made ≤ spare_of l.outbox d.owner) (take l.delivery-index l.made);
+  room : (w : ℕ) → w < l.owner → count_for w l.made ≤ spare_of l.outbox w;
 }

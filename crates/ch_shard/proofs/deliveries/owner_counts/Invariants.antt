@@ -1,0 +1,9 @@
+use Rattle.std.proofs.Common.{◌≡◌, ℕ, ◌<◌, length, take, slice_index_or}
+use Rattle.ch_shard.specs.Room.{count_for}
+use Rattle.ch_shard.proofs.deliveries.owner_counts.Given as goal
+
+abbrev pub invariant-loop-delivery : goal.invariant-loop-delivery
+invariant-loop-delivery l = record {
+  owners : length l.counts ≡ 64;
+  counted : (w : ℕ) → w < 64 → slice_index_or l.counts w 0 ≡ count_for w (take l.delivery-index l.made);
+}
