@@ -1,4 +1,4 @@
-ghost use Rattle.std.specs.Prelude.{◌≡◌, ◌+◌, ◌<◌, ◌≤◌, [], ◌∷◌, ◌++◌, All, OnOk, length, nat_le, vec_len, vec_capacity};
+ghost use Rattle.std.specs.Prelude.{◌≡◌, ◌+◌, ◌<◌, ◌^◌, ◌≤◌, [], ◌∷◌, ◌++◌, All, OnOk, length, nat_le, vec_len, vec_capacity};
 ghost use Rattle.std.specs.VecDeque.{deque_len, deque_capacity};
 ghost use Rattle.ch_history.specs.declared.limits.TheConstants.{HELD_FOR};
 ghost use Rattle.ch_history.specs.Held.{due, not_due, has_notice, vacated_events, held_after, hooks_after};
@@ -145,7 +145,8 @@ impl HookLog {
 
     /// How many of the held notices are due at this moment, in milliseconds.
     pub fn due(&self, now: u64) -> u64
-        ensures { result ≡ length (due now self.now.held) }
+        ensures due { result ≡ length (due now self.now.held) }
+        ensures bound { result < 2 ^ 63 }
     {
         if !is_due(self.oldest, now) {
             return 0;
@@ -216,7 +217,8 @@ fn forget(held: &mut VecDeque<HeldNotice>, channel: &Text)
 
 /// How many of the held notices are due.
 fn count_due(held: &VecDeque<HeldNotice>, now: u64) -> u64
-    ensures { result ≡ length (due now held.now.items) }
+    ensures due { result ≡ length (due now held.now.items) }
+    ensures bound { result < 2 ^ 63 }
 {
     held.iter()
         .filter(|notice| is_due(notice.since, now))

@@ -14,7 +14,9 @@ use Rattle.ch_history.proofs.Lists.{filter-none, list_any-false}
 use Rattle.ch_outbox.specs.Outbox.{frames_of}
 use Rattle.ch_shard.specs.Parts.{Parts, kept_at, Changes, IsUnchanged, JoinGives, join_frames, join_hooks}
 use Rattle.ch_history.specs.AnswerKinds.{IsAnswerTo}
-use Rattle.ch_shard.proofs.Simulation.{Moves, still, keeps}
+use Rattle.ch_shard.specs.Moves.{Moves}
+use Rattle.ch_shard.proofs.Occurring.{log-occur, held-occur, room-occur}
+use Rattle.ch_shard.proofs.Simulation.{still, keeps}
 use Rattle.ch_shard.proofs.Stays.{stay, none_own}
 
 -- the entry of the Join of n
@@ -26,17 +28,19 @@ abbrev answer_by_tests : Bool → Bool → ChanAnswer
 answer_by_tests there crowded = cond there Already (cond crowded Crowded Joined)
 
 anew : (old new : Parts) (now : ℕ) (n : Subscription) (at : ℕ) → is_on old.subs n.socket n.channel ≡ false → is_crowded n.channel (on_channel old.subs n.channel) n.member ≡ false
-    → Changes old new (old.subs ++ n ∷ []) (join_frames old now n) (join_hooks old now n) → Moves old new now (joining n at Joined)
+    → Changes old new now (old.subs ++ n ∷ []) (join_frames old now n) (join_hooks old now n) → Moves old new now (joining n at Joined)
 anew old new now n at off fits changes =
     let e : ChanEntry = joining n at Joined in
     record {
       answered = sym (ap (λ b. answer_by_tests b (is_crowded n.channel (on_channel old.subs n.channel) n.member)) off ∙ ap (answer_by_tests false) fits);
-      subs = changes.subs ∙ ap (λ ys. ys ++ n ∷ []) (sym (filter-none (λ s. settles s e) old.subs (none_own old.subs n.socket n.channel off)));
+      subs = changes.subs_now ∙ ap (λ ys. ys ++ n ∷ []) (sym (filter-none (λ s. settles s e) old.subs (none_own old.subs n.socket n.channel off)));
       latest = keeps old new now changes.latest;
       frames = λ v. changes.frames v
           ∙ ap (λ xs. frames_of old.outbox v ++ for_owner v (welcome n.channel (on_channel xs n.channel) (kept_at old now n.channel) n ++ arrival n.channel (on_channel old.subs n.channel) n.member))
-          (sym changes.subs);
-      log = changes.log;
+          (sym changes.subs_now);
+      log = log-occur old new now (join_hooks old now n) changes.hooks;
+      held = held-occur old new now (join_hooks old now n) changes.hooks;
+      room = λ _. room-occur old new now (join_hooks old now n) changes.hooks;
     }
 
 again : (old new : Parts) (now : ℕ) (n : Subscription) (at : ℕ) → is_on old.subs n.socket n.channel ≡ true → IsUnchanged old new → Moves old new now (joining n at Already)
@@ -55,7 +59,7 @@ full old new now n at off crowded same =
 by : (old new : Parts) (now : ℕ) (n : Subscription) (at : ℕ) (a : ChanAnswer) (there crowded : Bool) → is_on old.subs n.socket n.channel ≡ there → is_crowded n.channel (on_channel old.subs n.channel) n.member ≡ crowded
     → MatchBool there ((a ≡ Already) × IsUnchanged old new)
     (MatchBool crowded ((a ≡ Crowded) × IsUnchanged old new)
-    ((a ≡ Joined) × Changes old new (old.subs ++ n ∷ []) (join_frames old now n) (join_hooks old now n)))
+    ((a ≡ Joined) × Changes old new now (old.subs ++ n ∷ []) (join_frames old now n) (join_hooks old now n)))
     → Moves old new now (joining n at a)
 by old new now n at a true crowded is full_is gives =
     let P : ChanAnswer → Type 0 = λ x. Moves old new now (joining n at x) in subst P (sym gives.0) (again old new now n at is gives.1)

@@ -4,6 +4,7 @@ pub mod Rooms
 pub mod Sounds
 pub mod Partings
 pub mod Greetings
+pub mod Occurring
 pub mod Simulation
 pub mod Stays
 pub mod JoinSteps

@@ -5,7 +5,8 @@ use Rattle.ch_history.specs.Subscriptions.{subscriptions}
 use Rattle.ch_history.specs.Clock.{clock}
 use Rattle.ch_history.specs.Cache.{latest_at}
 use Rattle.ch_history.specs.Frames.{waiting}
-use Rattle.ch_history.specs.Webhooks.{pending}
+use Rattle.ch_history.specs.Held.{held}
+use Rattle.ch_history.specs.Pending.{since_take}
 use Rattle.ch_history.specs.Legal.{IsLegal}
 use Rattle.ch_cache.specs.Latest.{latest_in}
 use Rattle.ch_outbox.specs.Outbox.{frames_of}
@@ -17,4 +18,5 @@ pub record Holds (parts : Parts) (h : ChanHistory) : Type 0 where
   pub subs : parts.subs ≡ subscriptions h
   pub latest : (c : List ℕ) (at : ℕ) → clock h ≤ at → latest_in parts.cache c at ≡ latest_at h c at
   pub frames : (w : ℕ) → w < 64 → frames_of parts.outbox w ≡ waiting h w
-  pub log : parts.log ≡ pending h
+  pub log : parts.log ≡ since_take h
+  pub held : parts.held ≡ held h

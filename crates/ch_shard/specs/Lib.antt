@@ -5,6 +5,7 @@ pub mod Parting
 pub mod Greeting
 pub mod Naming
 pub mod Parts
+pub mod Moves
 pub mod Holds
 pub mod Tail
 pub mod Kept

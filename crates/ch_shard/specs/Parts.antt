@@ -10,6 +10,7 @@ use Rattle.ch_history.specs.declared.limits.TheConstants.{CACHED_FOR}
 use Rattle.ch_history.specs.declared.rows.Subscription.{Subscription}
 use Rattle.ch_history.specs.declared.rows.Cached.{Cached}
 use Rattle.ch_history.specs.declared.rows.Delivery.{Delivery}
+use Rattle.ch_history.specs.declared.rows.HeldNotice.{HeldNotice}
 use Rattle.ch_history.specs.ChannelName.{is_cache}
 use Rattle.ch_history.specs.Deliveries.{for_owner}
 use Rattle.ch_history.specs.Subscriptions.{on_channel, is_on, channels_in}
@@ -17,6 +18,7 @@ use Rattle.ch_history.specs.Presence.{users_in, user_in}
 use Rattle.ch_history.specs.Cache.{renewed, cache_row}
 use Rattle.ch_history.specs.Frames.{welcome, arrival, is_other, broadcast}
 use Rattle.ch_history.specs.Webhooks.{occupied, added, missed}
+use Rattle.ch_history.specs.Held.{due, not_due, vacated_events, held_after, hooks_after}
 use Rattle.ch_history.specs.Answers.{is_crowded, row_in, names_in}
 use Rattle.ch_cache.specs.declared.latest_event.LatestEvent.{LatestEvent}
 use Rattle.ch_cache.specs.Latest.{latest_in}
@@ -24,12 +26,15 @@ use Rattle.ch_outbox.specs.Outbox.{Waiting, frames_of}
 use Rattle.ch_subs.specs.Subs.{without_one, without_all}
 use Rattle.ch_shard.specs.Parting.{leave_frames, leave_hooks}
 
--- the open subscriptions, the latest events, what waits for each caller, and the webhook events that no TakeHooks has taken
+-- the open subscriptions, the latest events, what waits for each caller, the webhook events that no TakeHooks has taken, the vacated
+-- notices that are held, and for how many more of both there is room
 pub record Parts : Type 0 where
   pub subs : List Subscription
   pub cache : List LatestEvent
   pub outbox : List Waiting
   pub log : List Hook
+  pub held : List HeldNotice
+  pub spare : ℕ
 
 -- the channel's latest event at the moment
 abbrev pub kept_at : Parts → ℕ → List ℕ → Option Cached
@@ -39,19 +44,26 @@ kept_at k now c = latest_in k.cache c now
 abbrev pub row_at : Parts → ℕ → List ℕ → Option CacheRow
 row_at k now c = option_map (cache_row now) (kept_at k now c)
 
--- the subscriptions are now these, the latest events stay, and the frames and the webhook events are added
-pub record Changes (old new : Parts) (now : List Subscription) (made : List Delivery) (hooks : List Hook) : Type 0 where
-  pub subs : new.subs ≡ now
+-- the webhook events occur at the moment, after the notices that are due by then
+pub record Occur (old new : Parts) (now : ℕ) (events : List Hook) : Type 0 where
+  pub log : new.log ≡ old.log ++ hooks_after now events old.held
+  pub held : new.held ≡ held_after now events old.held
+
+-- the subscriptions are now these, the latest events stay, the frames are added, and the webhook events occur at the moment
+pub record Changes (old new : Parts) (now : ℕ) (subs : List Subscription) (made : List Delivery) (events : List Hook) : Type 0 where
+  pub subs_now : new.subs ≡ subs
   pub latest : (c : List ℕ) (at : ℕ) → latest_in new.cache c at ≡ latest_in old.cache c at
   pub frames : (w : ℕ) → frames_of new.outbox w ≡ frames_of old.outbox w ++ for_owner w made
-  pub log : new.log ≡ old.log ++ hooks
+  pub hooks : Occur old new now events
 
--- what is kept is the same, whatever the room
+-- what is kept is the same, and there is as much room for webhook events or more
 pub record IsUnchanged (old new : Parts) : Type 0 where
   pub subs : new.subs ≡ old.subs
   pub latest : (c : List ℕ) (at : ℕ) → latest_in new.cache c at ≡ latest_in old.cache c at
   pub frames : (w : ℕ) → frames_of new.outbox w ≡ frames_of old.outbox w
   pub log : new.log ≡ old.log
+  pub held : new.held ≡ old.held
+  pub spare : old.spare ≤ new.spare
 
 -- Join
 
@@ -78,20 +90,20 @@ JoinGives old new now n answer =
     ((answer ≡ Already) × IsUnchanged old new)
     (MatchBool (is_crowded n.channel (on_channel old.subs n.channel) n.member)
     ((answer ≡ Crowded) × IsUnchanged old new)
-    ((answer ≡ Joined) × Changes old new (old.subs ++ n ∷ []) (join_frames old now n) (join_hooks old now n)))
+    ((answer ≡ Joined) × Changes old new now (old.subs ++ n ∷ []) (join_frames old now n) (join_hooks old now n)))
 
 -- The ends of subscriptions
 
-abbrev pub LeaveGives : Parts → Parts → ℕ → List ℕ → ChanAnswer → Type 0
-LeaveGives old new socket c answer =
+abbrev pub LeaveGives : Parts → Parts → ℕ → ℕ → List ℕ → ChanAnswer → Type 0
+LeaveGives old new now socket c answer =
     MatchBool (is_on old.subs socket c)
-    ((answer ≡ Left) × Changes old new (without_one old.subs socket c) (leave_frames old.subs c socket) (leave_hooks old.subs c socket))
+    ((answer ≡ Left) × Changes old new now (without_one old.subs socket c) (leave_frames old.subs c socket) (leave_hooks old.subs c socket))
     ((answer ≡ NotOn) × IsUnchanged old new)
 
-abbrev pub LostGives : Parts → Parts → ℕ → ChanAnswer → Type 0
-LostGives old new socket answer =
+abbrev pub LostGives : Parts → Parts → ℕ → ℕ → ChanAnswer → Type 0
+LostGives old new now socket answer =
     (answer ≡ Gone (length (channels_in old.subs socket)))
-    × Changes old new (without_all old.subs socket)
+    × Changes old new now (without_all old.subs socket)
     (flat_map (λ c. leave_frames old.subs c socket) (channels_in old.subs socket))
     (flat_map (λ c. leave_hooks old.subs c socket) (channels_in old.subs socket))
 
@@ -111,13 +123,13 @@ pub record PublishGives (old new : Parts) (now : ℕ) (c event body : List ℕ) 
   pub subs : new.subs ≡ old.subs
   pub latest : (d : List ℕ) (at : ℕ) → now ≤ at → latest_in new.cache d at ≡ after_event (latest_in old.cache) c (event_at now event body) d at
   pub frames : (w : ℕ) → frames_of new.outbox w ≡ frames_of old.outbox w ++ for_owner w (broadcast c event body None (is_other except) (on_channel old.subs c))
-  pub log : new.log ≡ old.log
+  pub hooks : Occur old new now []
 
-abbrev pub SayGives : Parts → Parts → ℕ → List ℕ → List ℕ → List ℕ → ChanAnswer → Type 0
-SayGives old new socket c event body answer =
+abbrev pub SayGives : Parts → Parts → ℕ → ℕ → List ℕ → List ℕ → List ℕ → ChanAnswer → Type 0
+SayGives old new now socket c event body answer =
     MatchBool (is_on old.subs socket c)
     ((answer ≡ Said)
-    × Changes old new old.subs
+    × Changes old new now old.subs
     (broadcast c event body (user_in (on_channel old.subs c) socket) (is_other (Some socket)) (on_channel old.subs c))
     (hook.Client c event body socket (user_in (on_channel old.subs c) socket) ∷ []))
     ((answer ≡ NotOn) × IsUnchanged old new)
@@ -132,14 +144,17 @@ pub record TakeGives (old new : Parts) (caller : ℕ) (answer : ChanAnswer) : Ty
   pub emptied : frames_of new.outbox caller ≡ []
   pub others : (w : ℕ) → w ≢ caller → frames_of new.outbox w ≡ frames_of old.outbox w
   pub log : new.log ≡ old.log
+  pub held : new.held ≡ old.held
+  pub spare : new.spare ≡ old.spare
 
--- the webhook events are taken out
-pub record TakeHooksGives (old new : Parts) (answer : ChanAnswer) : Type 0 where
-  pub answered : answer ≡ Hooks old.log
+-- the webhook events are taken out, and after them the notices that are due at the moment
+pub record TakeHooksGives (old new : Parts) (now : ℕ) (answer : ChanAnswer) : Type 0 where
+  pub answered : answer ≡ Hooks (old.log ++ vacated_events (due now old.held))
   pub subs : new.subs ≡ old.subs
   pub latest : (c : List ℕ) (at : ℕ) → latest_in new.cache c at ≡ latest_in old.cache c at
   pub frames : (w : ℕ) → frames_of new.outbox w ≡ frames_of old.outbox w
   pub log : new.log ≡ []
+  pub held : new.held ≡ not_due now old.held
 
 -- Looks
 

@@ -1,4 +1,4 @@
-ghost use Rattle.std.specs.Prelude.{◌≡◌, ◌<◌, ℕ, [], ◌∷◌, ◌++◌, length, IsOk, IfOk, MatchResult};
+ghost use Rattle.std.specs.Prelude.{◌≡◌, ◌<◌, ◌≤◌, ℕ, [], ◌∷◌, ◌++◌, length, IsOk, IfOk, MatchResult};
 ghost use Rattle.ch_base.specs.Growth.{entry};
 
 use ch_base::{ChanAnswer, ChanCall, Memory};
@@ -12,8 +12,8 @@ use std::alloc::Global;
 use std::marker::Model;
 
 /// The parts of a shard: the open subscriptions, who is present by them, the latest events of cache
-/// channels, the press for the frames of each call, the frames that wait for each caller, and the webhook events that
-/// wait for the next take.
+/// channels, the press for the frames of each call, the frames that wait for each caller, the webhook events that
+/// wait for the next take, and the vacated notices that are held.
 #[derive(Drop)]
 pub struct Channels {
     pub(crate) alloc: Global,
@@ -31,7 +31,7 @@ impl Model for Channels {
 
     ghost Value = { Parts };
 
-    ghost view = { λ s. record { subs = s.subs; cache = s.cache; outbox = s.outbox; log = s.log.hooks } };
+    ghost view = { λ s. record { subs = s.subs; cache = s.cache; outbox = s.outbox; log = s.log.hooks; held = s.log.held; spare = s.log.spare } };
 
     ghost invariant = { λ s. IsSound s.subs s.presence.rows };
 }
@@ -41,7 +41,10 @@ impl Channels {
     ghost use Rattle.ch_history.specs.Entries.{ChanHistory};
     ghost use Rattle.ch_history.specs.Limits.{IsMoment};
     ghost use Rattle.ch_history.specs.WellFormed.{IsWellFormed};
+    ghost use Rattle.ch_history.specs.Held.{due};
     ghost use Rattle.ch_shard.specs.Holds.{Holds};
+    ghost use Rattle.ch_shard.specs.Moves.{Moves};
+    ghost use Rattle.ch_shard.specs.Parts.{IsUnchanged};
     ghost use Rattle.ch_history.specs.AnswerKinds.{IsAnswerTo};
 
     /// No channels. It takes no memory.
@@ -71,8 +74,10 @@ impl Channels {
         self.press.texts()
     }
 
-    /// Serves one call; `now` is the shard's clock with it. All memory of a call is taken before its first
-    /// change.
+    /// Serves one call; `now` is the shard's clock with it. After want of memory everything is as it was.
+    ///
+    /// Whatever the call, the notices that are due by then are released with it. A `Take` carries no moment, so that
+    /// none is due, and takes no memory.
     pub fn serve(&mut self, caller: u64, call: &ChanCall, now: u64) -> Result<ChanAnswer, Memory>
         requires caller { caller < 64 }
         requires formed { IsWellFormed call.now }
@@ -81,7 +86,25 @@ impl Channels {
             (λ answer. Holds self.new (h ++ entry caller call.now answer ∷ []))
             (λ _. Holds self.new h) }
         ensures take { call.now ≡ ChanCall.Take → IsOk result }
-        ensures take_hooks { (at : ℕ) → call.now ≡ ChanCall.TakeHooks at → IsOk result }
+        ensures kind { IfOk result (IsAnswerTo call.now) }
+    {
+        if let ChanCall::Take = call {
+            return Ok(self.take(caller));
+        }
+        self.log.reserve(self.log.due(now))?;
+        let answer = self.answer(caller, call, now)?;
+        self.log.release(now);
+        Ok(answer)
+    }
+
+    /// Answers the call, and changes what it changes; the notices that are due afterwards are still to be released.
+    /// After want of memory everything is as it was.
+    fn answer(&mut self, caller: u64, call: &ChanCall, now: u64) -> Result<ChanAnswer, Memory>
+        requires caller { caller < 64 }
+        requires formed { IsWellFormed call.now }
+        requires moment { IsMoment now }
+        requires room { length (due now self.old.held) ≤ self.old.spare }
+        ensures moves { MatchResult result (λ answer. Moves self.old self.new now (entry caller call.now answer)) (λ _. IsUnchanged self.old self.new) }
         ensures kind { IfOk result (IsAnswerTo call.now) }
     {
         match call {
@@ -95,8 +118,8 @@ impl Channels {
                 socket,
                 channel,
                 ..
-            } => self.leave(*socket, channel),
-            ChanCall::Lost { socket, .. } => self.lost(*socket),
+            } => self.leave(*socket, channel, now),
+            ChanCall::Lost { socket, .. } => self.lost(*socket, now),
             ChanCall::Publish {
                 channel,
                 event,
@@ -110,9 +133,9 @@ impl Channels {
                 event,
                 body,
                 ..
-            } => self.say(*socket, channel, event, body),
+            } => self.say(*socket, channel, event, body, now),
             ChanCall::Take => Ok(self.take(caller)),
-            ChanCall::TakeHooks { .. } => Ok(self.take_hooks()),
+            ChanCall::TakeHooks { .. } => Ok(self.take_hooks(now)),
             ChanCall::Names { prefix } => self.names(prefix),
             ChanCall::Look { channel, .. } => self.look(channel, now),
             ChanCall::Users { channel } => self.users(channel),

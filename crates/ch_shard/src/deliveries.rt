@@ -3,9 +3,8 @@ ghost use Rattle.ch_history.specs.Deliveries.{for_owner};
 ghost use Rattle.ch_outbox.specs.Outbox.{frames_of, spare_of};
 ghost use Rattle.ch_shard.specs.Room.{count_for, HasRoom};
 
-use ch_base::{Hook, Memory};
+use ch_base::Memory;
 use ch_history::Delivery;
-use ch_hooklog::HookLog;
 use ch_outbox::Outbox;
 
 /// Owners have numbers below this.
@@ -59,16 +58,5 @@ pub fn deliver(outbox: &mut Outbox, mut made: Vec<Delivery>)
     while let Some(delivery) = made.pop() {
         let Delivery { owner, item } = delivery;
         outbox.put(owner, item);
-    }
-}
-
-/// Moves each webhook event to the end of the log. It takes no memory.
-pub fn log_all(log: &mut HookLog, mut hooks: Vec<Hook>)
-    requires { vec_len hooks ≤ log.old.spare }
-    ensures { log.new.hooks ≡ log.old.hooks ++ hooks.items }
-{
-    hooks.reverse();
-    while let Some(hook) = hooks.pop() {
-        log.put(hook);
     }
 }

@@ -47,7 +47,7 @@ impl Channels {
         let frames = self.greeting_frames(caller, socket, channel, member, row.as_ref(), now)?;
         let hooks = self.greeting_hooks(channel, member, now)?;
         let made = Made { frames, hooks };
-        make_room(&mut self.outbox, &mut self.log, &made)?;
+        make_room(&mut self.outbox, &mut self.log, &made, now)?;
         self.subs.join(socket, channel, caller, member)?;
         match enter(&mut self.presence, row.as_ref()) {
             Ok(()) => {}
@@ -56,7 +56,7 @@ impl Channels {
                 return Err(memory);
             }
         }
-        hand_over(&mut self.outbox, &mut self.log, made);
+        hand_over(&mut self.outbox, &mut self.log, made, now);
         Ok(ChanAnswer::Joined)
     }
 

@@ -11,29 +11,29 @@ use ch_presence::Presence;
 use ch_subs::Subs;
 
 impl Channels {
-    pub(crate) fn leave(&mut self, socket: u64, channel: &Text) -> Result<ChanAnswer, Memory>
-        ensures { MatchResult result (λ answer. LeaveGives self.old self.new socket channel.now answer) (λ _. IsUnchanged self.old self.new) }
+    pub(crate) fn leave(&mut self, socket: u64, channel: &Text, now: u64) -> Result<ChanAnswer, Memory>
+        ensures { MatchResult result (λ answer. LeaveGives self.old self.new now socket channel.now answer) (λ _. IsUnchanged self.old self.new) }
     {
         if !self.subs.on(socket, channel) {
             return Ok(ChanAnswer::NotOn);
         }
         let mut made = Made::new(self.alloc);
         part(&mut self.press, &self.subs, channel, socket, &mut made)?;
-        make_room(&mut self.outbox, &mut self.log, &made)?;
+        make_room(&mut self.outbox, &mut self.log, &made, now)?;
         depart(&mut self.presence, &self.subs, channel, socket);
         self.subs.leave(socket, channel);
-        hand_over(&mut self.outbox, &mut self.log, made);
+        hand_over(&mut self.outbox, &mut self.log, made, now);
         Ok(ChanAnswer::Left)
     }
 
-    pub(crate) fn lost(&mut self, socket: u64) -> Result<ChanAnswer, Memory>
-        ensures { MatchResult result (λ answer. LostGives self.old self.new socket answer) (λ _. IsUnchanged self.old self.new) }
+    pub(crate) fn lost(&mut self, socket: u64, now: u64) -> Result<ChanAnswer, Memory>
+        ensures { MatchResult result (λ answer. LostGives self.old self.new now socket answer) (λ _. IsUnchanged self.old self.new) }
     {
         let made = partings(&mut self.press, &self.subs, socket)?;
-        make_room(&mut self.outbox, &mut self.log, &made)?;
+        make_room(&mut self.outbox, &mut self.log, &made, now)?;
         self.presence.lost(socket);
         let count = self.subs.lost(socket);
-        hand_over(&mut self.outbox, &mut self.log, made);
+        hand_over(&mut self.outbox, &mut self.log, made, now);
         Ok(ChanAnswer::Gone { count })
     }
 }

@@ -32,9 +32,9 @@ impl Channels {
         let frames = broadcast(self.alloc, &self.subs, channel, &printed, except)?;
         let hooks = Vec::new(self.alloc);
         let made = Made { frames, hooks };
-        make_room(&mut self.outbox, &mut self.log, &made)?;
+        make_room(&mut self.outbox, &mut self.log, &made, now)?;
         keep(&mut self.cache, channel, event, body, now)?;
-        hand_over(&mut self.outbox, &mut self.log, made);
+        hand_over(&mut self.outbox, &mut self.log, made, now);
         Ok(ChanAnswer::Sent { subs, users })
     }
 }

@@ -18,8 +18,9 @@ impl Channels {
         channel: &Text,
         event: &Text,
         body: &Text,
+        now: u64,
     ) -> Result<ChanAnswer, Memory>
-        ensures { MatchResult result (λ answer. SayGives self.old self.new socket channel.now event.now body.now answer) (λ _. IsUnchanged self.old self.new) }
+        ensures { MatchResult result (λ answer. SayGives self.old self.new now socket channel.now event.now body.now answer) (λ _. IsUnchanged self.old self.new) }
     {
         if !self.subs.on(socket, channel) {
             return Ok(ChanAnswer::NotOn);
@@ -32,8 +33,8 @@ impl Channels {
         let printed = self.press.print(frame)?;
         let frames = broadcast(self.alloc, &self.subs, channel, &printed, Some(socket))?;
         let made = Made { frames, hooks };
-        make_room(&mut self.outbox, &mut self.log, &made)?;
-        hand_over(&mut self.outbox, &mut self.log, made);
+        make_room(&mut self.outbox, &mut self.log, &made, now)?;
+        hand_over(&mut self.outbox, &mut self.log, made, now);
         Ok(ChanAnswer::Said)
     }
 }

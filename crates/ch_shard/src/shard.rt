@@ -52,12 +52,14 @@ impl ChanShard {
 
     /// Serves one call of a caller, who has a number below 64.
     ///
-    /// All memory of a call is taken before its first change. A call whose moment is below that of an
-    /// earlier one is made at the greatest moment so far: that is the shard's clock. The laws hold of every history that the
-    /// shard then stands for: `channel_occupied` and `channel_vacated` of each channel alternate and end
-    /// at whether a socket is subscribed, `member_added` and `member_removed` of each user of a presence
-    /// channel alternate and end at whether the user is there, and a newcomer of a cache channel is sent
-    /// exactly one of the latest event and a cache miss.
+    /// After want of memory everything is as it was; a `Take` needs none. A call whose moment is below that of an earlier
+    /// one is made at the greatest moment so far: that is the shard's clock. With each call the vacated notices that are
+    /// due by then are released, before the call's own webhook events.
+    ///
+    /// The laws hold of every history that the shard then stands for: `channel_occupied` and `channel_vacated` of each
+    /// channel alternate and end at whether a socket is subscribed or the channel's vacated notice is held,
+    /// `member_added` and `member_removed` of each user of a presence channel alternate and end at whether the user is
+    /// there, and a newcomer of a cache channel is sent exactly one of the latest event and a cache miss.
     pub fn apply(&mut self, caller: u64, call: &ChanCall) -> Result<ChanAnswer, Memory>
         requires caller { caller < 64 }
         requires formed { IsWellFormed call.now }
@@ -65,7 +67,6 @@ impl ChanShard {
             (λ answer. Stands self.new (h ++ entry caller call.now answer ∷ []))
             (λ _. Stands self.new h) }
         ensures take { call.now ≡ ChanCall.Take → IsOk result }
-        ensures take_hooks { (at : ℕ) → call.now ≡ ChanCall.TakeHooks at → IsOk result }
         ensures kind { IfOk result (IsAnswerTo call.now) }
         ensures occupancy { (h : ChanHistory) → Stands self.new h → (c : List ℕ) → OccupancyAlternates h c }
         ensures membership { (h : ChanHistory) → Stands self.new h → (c id : List ℕ) → IsTrue (is_presence c) → MembershipAlternates h c id }

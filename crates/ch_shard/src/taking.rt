@@ -1,4 +1,5 @@
-ghost use Rattle.std.specs.Prelude.{◌<◌};
+ghost use Rattle.std.specs.Prelude.{◌<◌, ◌≤◌, length};
+ghost use Rattle.ch_history.specs.Held.{due};
 ghost use Rattle.ch_shard.specs.Parts.{TakeGives, TakeHooksGives};
 
 use crate::channels::Channels;
@@ -12,9 +13,12 @@ impl Channels {
         ChanAnswer::Frames(self.outbox.take_all(caller))
     }
 
-    pub(crate) fn take_hooks(&mut self) -> ChanAnswer
-        ensures { TakeHooksGives self.old self.new result }
+    /// The notices that are due at the moment are taken too.
+    pub(crate) fn take_hooks(&mut self, now: u64) -> ChanAnswer
+        requires { length (due now self.old.held) ≤ self.old.spare }
+        ensures { TakeHooksGives self.old self.new now result }
     {
+        self.log.release(now);
         ChanAnswer::Hooks(self.log.take_all())
     }
 }

@@ -233,7 +233,7 @@ fn join_room(alloc: Global, shard: &mut ChanShard, caller: u64, socket: u64) -> 
     requires caller { caller < 64 }
     requires socket { IsSocket socket }
 {
-    shard.apply(caller, &join(alloc, socket, "a", None)?)?;
+    shard.apply(caller, &join(alloc, socket, "a", None, 0)?)?;
     Ok(())
 }
 

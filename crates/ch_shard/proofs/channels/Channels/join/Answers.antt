@@ -1,4 +1,4 @@
-use Rattle.std.proofs.Common.{◌≡◌, ◌∙◌, ◌++◌, ◌∷◌, [], List, false, cond, All, ap, sym, subst}
+use Rattle.std.proofs.Common.{◌≡◌, ◌∙◌, ◌++◌, ◌∷◌, [], List, false, cond, All, ap, sym, subst, arith}
 use Rattle.std.specs.Option.{option_copied}
 use Rattle.ch_history.specs.declared.rows.Subscription.{Subscription}
 use Rattle.ch_history.specs.Subscriptions.{is_on}
@@ -7,7 +7,9 @@ use Rattle.ch_presence.specs.Members.{with_newcomer}
 use Rattle.ch_shard.specs.Greeting.{IsAbsent}
 use Rattle.ch_shard.specs.Parts.{Parts, newcomer}
 use Rattle.ch_shard.specs.Sound.{IsSound}
+use Rattle.ch_hooklog.specs.HookLog.{IsOfOneCall}
 use Rattle.ch_shard.proofs.Greetings.{absent_is}
+use Rattle.ch_shard.proofs.Occurring.{join-call}
 use Rattle.ch_shard.proofs.Owners.{OwnsSub, OwnsFrame, join_owned}
 use Rattle.ch_shard.proofs.Sounds.{IsSound-join}
 use Rattle.ch_shard.proofs.Stays.{join_undone}
@@ -27,6 +29,11 @@ hand_over-requires-clause-owners c =
     let n = newcomer c.args.caller c.args.socket c.args.channel.now (option_copied c.args.member) in
     let P = λ (k : Parts). All OwnsSub k.subs in
     subst (All OwnsFrame) (sym c.in_ok-frames.ensures.made) (join_owned c.args.self.now c.args.now n (subst P c.self.view_is c.self.invariant.owners) c.requires.caller)
+
+pub hand_over-requires-clause-call : goal.hand_over-requires-clause-call
+hand_over-requires-clause-call c =
+    let n = newcomer c.args.caller c.args.socket c.args.channel.now (option_copied c.args.member) in
+    subst IsOfOneCall (sym c.in_ok-hooks.ensures) ?
 
 pub enter-requires : goal.enter-requires
 enter-requires c =
@@ -64,6 +71,8 @@ returns-in-Err c =
       latest = λ e at. ap (λ (k : Parts). latest_in k.cache e at) kept;
       frames = λ w. c.make_room.ensures.frames w ∙ ap (λ (k : Parts). frames_of k.outbox w) kept;
       log = c.make_room.ensures.hooks ∙ ap (λ (k : Parts). k.log) kept;
+      held = c.make_room.ensures.held ∙ ap (λ (k : Parts). k.held) kept;
+      spare = let before = ap (λ (k : Parts). k.spare) kept in omega (arith, before, c.make_room.ensures.spare);
     }
 
 pub invariant_of-self-2 : goal.invariant_of-self-2

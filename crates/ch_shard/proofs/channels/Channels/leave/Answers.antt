@@ -18,6 +18,9 @@ hand_over-requires-clause-owners c =
     subst (All OwnsFrame) (sym (c.in_ok-part.ensures.frames ∙ ap (λ ds. ds ++ leave_frames c.self.inside.subs c.args.channel.now c.args.socket) c.new-made.ensures.frames))
     (leave_owned c.self.inside.subs c.args.channel.now c.args.socket c.self.invariant.owners)
 
+pub hand_over-requires-clause-call : goal.hand_over-requires-clause-call
+hand_over-requires-clause-call c = ?
+
 pub invariant_of-self-2 : goal.invariant_of-self-2
 invariant_of-self-2 c =
     let d = c.args.channel.now in

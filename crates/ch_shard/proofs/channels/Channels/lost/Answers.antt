@@ -6,6 +6,9 @@ use Rattle.ch_presence.specs.declared.present.Present.{Present}
 use Rattle.ch_subs.specs.Subs.{without_all}
 use Rattle.ch_shard.specs.Sound.{IsSound}
 use Rattle.ch_shard.proofs.Sounds.{IsSound-lost}
+use Rattle.ch_hooklog.specs.HookLog.{IsOfOneCall}
+use Rattle.ch_history.specs.Subscriptions.{channels_in}
+use Rattle.ch_shard.proofs.Occurring.{lost-call}
 use Rattle.ch_shard.proofs.Owners.{OwnsFrame, lost_owned}
 use Rattle.ch_shard.proofs.channels.Channels.lost.Goals as goal
 
@@ -17,15 +20,18 @@ pub hand_over-requires-clause-owners : goal.hand_over-requires-clause-owners
 hand_over-requires-clause-owners c =
     subst (All OwnsFrame) (sym c.in_ok-made.ensures.frames) (lost_owned c.self.inside.subs c.args.socket c.self.invariant.owners)
 
+pub hand_over-requires-clause-call : goal.hand_over-requires-clause-call
+hand_over-requires-clause-call c = subst IsOfOneCall (sym c.in_ok-made.ensures.hooks) (lost-call c.self.inside.subs (channels_in c.self.inside.subs c.args.socket) c.args.socket)
+
 pub returns : goal.returns
 returns c =
     rw (← c.self.view_is) (
       ap (λ n. Gone n) c.lost-count.ensures.answer,
       record {
-        subs = c.lost-count.ensures.subs;
+        subs_now = c.lost-count.ensures.subs;
         latest = λ d at. refl;
         frames = λ w. c.hand_over.ensures.frames w ∙ ap₂ (λ ws ds. ws ++ for_owner w ds) (c.in_ok-make_room.ensures.frames w) c.in_ok-made.ensures.frames;
-        log = c.hand_over.ensures.hooks ∙ ap₂ ◌++◌ c.in_ok-make_room.ensures.hooks c.in_ok-made.ensures.hooks;
+        hooks = ?;
       },
     )
 

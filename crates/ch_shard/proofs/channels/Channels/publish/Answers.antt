@@ -4,6 +4,7 @@ use Rattle.ch_base.specs.declared.channel.ChanAnswer.TheVariants.{Sent}
 use Rattle.ch_history.specs.Deliveries.{for_owner}
 use Rattle.ch_history.specs.Presence.{users_in}
 use Rattle.ch_history.specs.Subscriptions.{on_channel}
+use Rattle.ch_hooklog.specs.HookLog.{IsOfOneCall}
 use Rattle.ch_shard.specs.Parts.{Parts}
 use Rattle.ch_shard.specs.Told.{told}
 use Rattle.ch_history.specs.Frames.{is_other}
@@ -20,6 +21,9 @@ hand_over-requires-clause-owners c =
     subst (All OwnsFrame) (sym c.in_ok-frames.ensures)
     (told_owned (arc_value c.in_ok-printed.printed) (λ s. is_other c.args.except s.socket) c.args.channel.now c.self.inside.subs c.self.invariant.owners)
 
+pub hand_over-requires-clause-call : goal.hand_over-requires-clause-call
+hand_over-requires-clause-call c = subst IsOfOneCall (sym c.new-hooks.ensures.items) tt
+
 pub returns : goal.returns
 returns c =
     let d = c.args.channel.now in
@@ -31,6 +35,6 @@ returns c =
       subs = refl;
       latest = c.in_ok-keep.ensures.ok;
       frames = λ w. c.hand_over.ensures.frames w ∙ ap₂ (λ ws ds. ws ++ for_owner w ds) (c.in_ok-make_room.ensures.frames w) told_all;
-      log = c.hand_over.ensures.hooks ∙ ap₂ ◌++◌ c.in_ok-make_room.ensures.hooks c.new-hooks.ensures.items ∙ append-nil c.self.inside.log.hooks;
+      hooks = ?;
     }
     )

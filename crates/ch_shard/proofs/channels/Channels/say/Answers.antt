@@ -34,9 +34,9 @@ returns c =
     rw (← c.self.view_is) (rw there (
       refl,
       record {
-        subs = refl;
+        subs_now = refl;
         latest = λ _ at. refl;
         frames = λ w. c.hand_over.ensures.frames w ∙ ap₂ (λ ws ds. ws ++ for_owner w ds) (c.in_ok-make_room.ensures.frames w) frames;
-        log = c.hand_over.ensures.hooks ∙ ap₂ ◌++◌ c.in_ok-make_room.ensures.hooks hooks;
+        hooks = ?;
       },
     ))
