@@ -1,3 +1,4 @@
+pub mod Waitings
 pub mod Backlogs
 pub mod Connections
 pub mod Peers

@@ -3,7 +3,8 @@ ghost use Rattle.std.specs.Option.{option_copied};
 ghost use Rattle.ch_live.specs.Backlogs.{is_cut, delivered, marked};
 
 use crate::turn::Delivered;
-use ch_base::{Frame, Memory};
+use crate::waiting::Waiting;
+use ch_base::Memory;
 use circular_buffer::HeapCircularBuffer;
 use std::alloc::Global;
 use std::marker::Model;
@@ -20,7 +21,7 @@ const CUT: u16 = 4100;
 /// connection.
 #[derive(Drop)]
 pub struct Backlog {
-    frames: HeapCircularBuffer<Frame>,
+    frames: HeapCircularBuffer<Waiting>,
     killed: bool,
     cut: bool,
 }
@@ -50,23 +51,21 @@ impl Backlog {
 
     /// Delivers a frame: it waits where there is room. A Kill doesn't wait, but marks the connection, as a
     /// frame does that finds no room. It takes no memory.
-    pub fn deliver(&mut self, frame: Frame) -> Delivered
+    pub fn deliver(&mut self, frame: Waiting) -> Delivered
         ensures held { self.new ≡ delivered self.old frame }
         ensures cut { result ≡ (if is_cut self.old frame then Delivered.Cut else Delivered.Kept) }
     {
-        match frame {
-            Frame::Kill => {
-                self.killed = true;
-                Delivered::Kept
+        if frame.is_kill() {
+            self.killed = true;
+            return Delivered::Kept;
+        }
+        match self.frames.try_push_back(frame) {
+            Ok(()) => Delivered::Kept,
+            Err(frame) => {
+                let_go(frame);
+                self.cut = true;
+                Delivered::Cut
             }
-            frame => match self.frames.try_push_back(frame) {
-                Ok(()) => Delivered::Kept,
-                Err(frame) => {
-                    let_go(frame);
-                    self.cut = true;
-                    Delivered::Cut
-                }
-            },
         }
     }
 
@@ -91,7 +90,7 @@ impl Backlog {
     }
 
     /// The frame that waited longest.
-    pub fn first(&self) -> Option<&Frame>
+    pub fn first(&self) -> Option<&Waiting>
         ensures { option_copied result ≡ slice_get self.now.frames 0 }
     {
         self.frames.front()
@@ -106,4 +105,4 @@ impl Backlog {
 }
 
 /// Drops a frame that found no room.
-fn let_go(_frame: Frame) {}
+fn let_go(_frame: Waiting) {}

@@ -17,6 +17,7 @@ use crate::farewell::end_with;
 use crate::receiving::moved_or_idle;
 use crate::sending::{Sending, send_on};
 use crate::turn::{Delivered, End, Turn};
+use crate::waiting::Waiting;
 use ch_base::{Frame, Memory};
 use ch_config::Config;
 use ch_desk::Desk;
@@ -62,9 +63,9 @@ impl Connection {
         let Ok(mut backlog) = Backlog::new(alloc) else {
             return Err(session);
         };
-        backlog.deliver(Frame::Opened {
+        backlog.deliver(Waiting::alone(Frame::Opened {
             number: session.number(),
-        });
+        }));
         Ok(Connection {
             alloc,
             session,
@@ -73,7 +74,7 @@ impl Connection {
     }
 
     /// Delivers a frame.
-    pub fn deliver(&mut self, frame: Frame) -> Delivered
+    pub fn deliver(&mut self, frame: Waiting) -> Delivered
         ensures held { self.new ≡ record self.old { backlog = delivered self.old.backlog frame } }
         ensures cut { result ≡ (if is_cut self.old.backlog frame then Delivered.Cut else Delivered.Kept) }
     {
@@ -126,7 +127,7 @@ impl Connection {
         match self.session.tick(now) {
             Due::Nothing => None,
             Due::Ping => {
-                self.backlog.deliver(Frame::Ping);
+                self.backlog.deliver(Waiting::alone(Frame::Ping));
                 None
             }
             Due::Expired => Some(EXPIRED),

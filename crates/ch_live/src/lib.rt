@@ -15,6 +15,7 @@ mod peer;
 mod receiving;
 mod sending;
 mod turn;
+mod waiting;
 
 pub use backlog::Backlog;
 pub use connection::Connection;
@@ -22,3 +23,4 @@ pub use laws::{direct_frames_wait, idle_turns, marks_end, no_loss_is_left_out, t
 pub use live::{Live, Unlive};
 pub use peer::Peer;
 pub use turn::{Delivered, End, Farewell, Turn};
+pub use waiting::Waiting;

@@ -1,4 +1,5 @@
 ghost use Rattle.std.specs.Prelude.{◌≡◌, ◌↔◌, ℕ, List, if◌then◌else◌, IsTrue, IfOk, IfErr, OnOk};
+ghost use Rattle.std.specs.Arc.{arc_value};
 ghost use Rattle.ch_config.specs.Config.{IsConfig};
 ghost use Rattle.ch_config.specs.declared.config.Config.{Config};
 ghost use Rattle.ch_desk.specs.Views.{IsDeskOf};
@@ -16,12 +17,14 @@ use crate::connection::Connection;
 use crate::farewell::end_with;
 use crate::peer::Peer;
 use crate::turn::{Delivered, Turn};
-use ch_base::{Frame, Memory};
+use crate::waiting::Waiting;
+use ch_base::{Frame, Memory, Printed};
 use ch_config::Config;
 use ch_desk::Desk;
 use ch_net::Wire;
 use ch_session::Session;
 use std::alloc::Global;
+use std::sync::Arc;
 
 /// A live socket: its wire, and who it is. A moment is a number of milliseconds, at most 10^15.
 #[derive(Drop)]
@@ -78,7 +81,19 @@ impl<W> Live<W> {
         ensures wire { self.new.wire ≡ self.old.wire }
         ensures over { (config : Config) → IsPeerOver config self.old.peer → IsPeerOver config self.new.peer }
     {
-        deliver_to(&mut self.peer, frame)
+        deliver_to(&mut self.peer, Waiting::alone(frame))
+    }
+
+    /// Delivers a frame that other sockets may get too, as `deliver` does. It waits with its text, and is sent
+    /// by that. It takes no memory.
+    pub fn deliver_shared(&mut self, printed: Arc<Printed>) -> Delivered
+        ensures peer { self.new.peer ≡ delivered_to self.old.peer (arc_value printed) }
+        ensures cut { result
+            ≡ (if finds_no_room self.old.peer (arc_value printed) then Delivered.Cut else Delivered.Kept) }
+        ensures wire { self.new.wire ≡ self.old.wire }
+        ensures over { (config : Config) → IsPeerOver config self.old.peer → IsPeerOver config self.new.peer }
+    {
+        deliver_to(&mut self.peer, Waiting::shared(printed))
     }
 
     /// Whether the socket's session has a loss that is still to be made.
@@ -134,13 +149,13 @@ impl<W: Wire> Live<W> {
     }
 }
 
-fn deliver_to(peer: &mut Peer, frame: Frame) -> Delivered
+fn deliver_to(peer: &mut Peer, frame: Waiting) -> Delivered
     ensures peer { peer.new ≡ delivered_to peer.old frame }
     ensures cut { result ≡ (if finds_no_room peer.old frame then Delivered.Cut else Delivered.Kept) }
 {
     match peer {
         Peer::Open(connection) => connection.deliver(frame),
-        Peer::Refused(_) => match frame {
+        Peer::Refused(_) => match frame.frame() {
             Frame::Kill => Delivered::Kept,
             _ => Delivered::Cut,
         },

@@ -14,6 +14,7 @@ use crate::backlog::Backlog;
 use crate::connection::Connection;
 use crate::farewell::end_with;
 use crate::turn::{End, Turn};
+use crate::waiting::Waiting;
 use ch_base::Frame;
 use ch_config::Config;
 use ch_desk::Desk;
@@ -122,7 +123,7 @@ fn deliver_reply(backlog: &mut Backlog, reply: Option<Frame>)
 {
     match reply {
         Some(frame) => {
-            backlog.deliver(frame);
+            backlog.deliver(Waiting::alone(frame));
         }
         None => {}
     }

@@ -1,6 +1,10 @@
+ghost use Rattle.std.specs.Prelude.{[]};
+ghost use Rattle.ch_base.specs.Printed.{printed};
 ghost use Rattle.ch_live.specs.Sent.{SendsFirst};
+ghost use Rattle.ch_net.specs.Wires.{WireMoves, PutHasCause, put};
 
 use crate::backlog::Backlog;
+use crate::waiting::Waiting;
 use ch_frames::print;
 use ch_net::{Pump, Put, Wire};
 use std::alloc::Global;
@@ -46,11 +50,8 @@ pub(crate) fn send_on<W: Wire>(
 fn send_waiting<W: Wire>(alloc: Global, start: u64, backlog: &mut Backlog, wire: &mut W) -> Sending
     ensures { SendsFirst start backlog.old backlog.new (W.told wire.old) (W.told wire.new) result }
 {
-    while let Some(frame) = backlog.first() {
-        let Ok(text) = print(alloc, frame, start) else {
-            return Sending::Memory;
-        };
-        match wire.send(&text) {
+    while let Some(waiting) = backlog.first() {
+        match send(alloc, start, waiting, wire) {
             Put::Put => backlog.first_sent(),
             Put::Waiting => return Sending::Waiting,
             Put::Memory => return Sending::Memory,
@@ -58,4 +59,19 @@ fn send_waiting<W: Wire>(alloc: Global, start: u64, backlog: &mut Backlog, wire:
         }
     }
     Sending::All
+}
+
+/// Sends one frame that waits, by its text, for which it is printed first where it has none.
+fn send<W: Wire>(alloc: Global, start: u64, waiting: &Waiting, wire: &mut W) -> Put
+    ensures moves { WireMoves (W.told wire.old) (W.told wire.new) []
+        (put result (printed waiting.now start)) [] }
+    ensures cause { PutHasCause result (W.told wire.old).counts (W.told wire.new).counts }
+{
+    if let Some(text) = waiting.text() {
+        return wire.send(text);
+    }
+    match print(alloc, waiting.frame(), start) {
+        Ok(text) => wire.send(&text),
+        Err(_) => Put::Memory,
+    }
 }
