@@ -1,6 +1,6 @@
 -- Clients may go to another thread, where their links and wires may.
 use denote.RattleType.{RattleType}
-use denote.Param.Send.{IsSend, sendable, view_send}
+use denote.Param.Send.{IsSend, IsSync, sendable, view_send, view_sync}
 use denote.Param.SendFields.{declared_send, as_row_send, variants_send}
 use denote.Struct.Field.{u64-field, usize-field, row_field}
 use Rattle.std.proofs.Crossing.{crosses, send}
@@ -13,8 +13,10 @@ use Rattle.circular_buffer.specs.contracts.cells.Deed as Deed
 use Rattle.circular_buffer.specs.contracts.heap.HeapCircularBuffer as Buffer
 use Rattle.circular_buffer.specs.contracts.heap.HeapCircularBuffer.TheInside as InsideBuffer
 use Rattle.circular_buffer.proofs.Crosses.{Cells-send, Deed-send}
-use Rattle.ch_base.proofs.Crossing.{text_send, frame_send}
+use Rattle.ch_base.proofs.Crossing.{text_send, text_sync, frame_send}
 use Rattle.ch_base.specs.contracts.frame.Frame as Frame
+use Rattle.ch_base.specs.contracts.printed.Printed as Printed
+use Rattle.ch_base.specs.contracts.printed.Printed.TheInside as InsidePrinted
 use Rattle.ch_rate.specs.contracts.activity.Activity as Activity
 use Rattle.ch_rate.specs.contracts.rate.Rate as Rate
 use Rattle.ch_rate.specs.contracts.rate.Rate.TheInside as InsideRate
@@ -24,6 +26,9 @@ use Rattle.ch_session.specs.contracts.session.Session as Session
 use Rattle.ch_session.specs.contracts.session.Session.TheInside as InsideSession
 use Rattle.ch_live.specs.contracts.live.Live as Live
 use Rattle.ch_live.specs.contracts.peer.Peer as Peer
+use Rattle.ch_live.specs.contracts.waiting.Form as Form
+use Rattle.ch_live.specs.contracts.waiting.Waiting as Waiting
+use Rattle.ch_live.specs.contracts.waiting.Waiting.TheInside as InsideWaiting
 use Rattle.ch_live.specs.contracts.backlog.Backlog as Backlog
 use Rattle.ch_live.specs.contracts.backlog.Backlog.TheInside as InsideBacklog
 use Rattle.ch_live.specs.contracts.connection.Connection as Connection
@@ -70,23 +75,45 @@ session_send =
     let inside : IsSend InsideSession.the_row = search (sendable, crosses, tally_send, activity_send) depth 24 in
     view_send InsideSession.the_row _ _ _ _ inside
 
--- the ring's fields in order: its base, three numbers, its cells, their deed, and the allocator
-ring_send : IsSend (Ring.the_row Frame.the_row Global.the_row heap.ghosts)
-ring_send =
-    let base : IsSend (Base.the_row Frame.the_row) = search (sendable, crosses) depth 24 in
-    let number : IsSend usize-field.row = search sendable depth 12 in
-    let cells = Cells-send Frame.the_row frame_send in
-    let deed : IsSend (Deed.the_row Frame.the_row Global.the_row heap.ghosts) = search (sendable, crosses, Deed-send) depth 24 in
-    let count = as_row_send usize-field number in
-    let held = as_row_send (Cells.the_field Frame.the_row) cells in
-    let owned = as_row_send (Deed.the_field Frame.the_row Global.the_row heap.ghosts) deed in
-    let heap_send = as_row_send (row_field Global.the_row) send in
-    declared_send (Ring.the_type Frame.the_row Global.the_row heap.ghosts) (base, (count, (count, (count, (held, (owned, (heap_send, tt)))))))
+frame_sync : IsSync Frame.the_row
+frame_sync = search (sendable, crosses, text_sync) depth 24
 
-buffer_send : IsSend (Buffer.the_row Frame.the_row Global.the_row heap.ghosts)
+printed_send : IsSend Printed.the_row
+printed_send =
+    let inside : IsSend InsidePrinted.the_row = search (sendable, crosses, frame_send, text_send) depth 24 in
+    view_send InsidePrinted.the_row _ _ _ _ inside
+
+printed_sync : IsSync Printed.the_row
+printed_sync =
+    let inside : IsSync InsidePrinted.the_row = search (sendable, crosses, frame_sync, text_sync) depth 24 in
+    view_sync InsidePrinted.the_row _ _ _ _ inside
+
+form_send : IsSend Form.the_row
+form_send = search (sendable, crosses, frame_send, printed_send, printed_sync) depth 24
+
+-- a frame that waits may be shared by sockets of several threads
+waiting_send : IsSend Waiting.the_row
+waiting_send =
+    let inside : IsSend InsideWaiting.the_row = search (sendable, crosses, form_send) depth 24 in
+    view_send InsideWaiting.the_row _ _ _ _ inside
+
+-- the ring's fields in order: its base, three numbers, its cells, their deed, and the allocator
+ring_send : IsSend (Ring.the_row Waiting.the_row Global.the_row heap.ghosts)
+ring_send =
+    let base : IsSend (Base.the_row Waiting.the_row) = search (sendable, crosses) depth 24 in
+    let number : IsSend usize-field.row = search sendable depth 12 in
+    let cells = Cells-send Waiting.the_row waiting_send in
+    let deed : IsSend (Deed.the_row Waiting.the_row Global.the_row heap.ghosts) = search (sendable, crosses, Deed-send) depth 24 in
+    let count = as_row_send usize-field number in
+    let held = as_row_send (Cells.the_field Waiting.the_row) cells in
+    let owned = as_row_send (Deed.the_field Waiting.the_row Global.the_row heap.ghosts) deed in
+    let heap_send = as_row_send (row_field Global.the_row) send in
+    declared_send (Ring.the_type Waiting.the_row Global.the_row heap.ghosts) (base, (count, (count, (count, (held, (owned, (heap_send, tt)))))))
+
+buffer_send : IsSend (Buffer.the_row Waiting.the_row Global.the_row heap.ghosts)
 buffer_send =
-    let inside : IsSend (InsideBuffer.the_row Frame.the_row Global.the_row heap.ghosts) = declared_send (InsideBuffer.the_type Frame.the_row Global.the_row heap.ghosts) (ring_send, tt) in
-    view_send (InsideBuffer.the_row Frame.the_row Global.the_row heap.ghosts) _ _ _ _ inside
+    let inside : IsSend (InsideBuffer.the_row Waiting.the_row Global.the_row heap.ghosts) = declared_send (InsideBuffer.the_type Waiting.the_row Global.the_row heap.ghosts) (ring_send, tt) in
+    view_send (InsideBuffer.the_row Waiting.the_row Global.the_row heap.ghosts) _ _ _ _ inside
 
 backlog_send : IsSend Backlog.the_row
 backlog_send =

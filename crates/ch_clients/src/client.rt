@@ -1,4 +1,5 @@
 ghost use Rattle.std.specs.Prelude.{◌≡◌, ◌==◌, if◌then◌else◌};
+ghost use Rattle.std.specs.Arc.{arc_value};
 ghost use Rattle.ch_clients.specs.Clients.{handed, newcomer, MaySpeak, MayTurn, WebSocket, with_frame};
 ghost use Rattle.ch_clients.specs.Spoken.{spoken};
 ghost use Rattle.ch_clients.specs.Steps.{IsStep, IsSpeechStep, MayFollow, step_of_live, step_of_exchange, setting_with};
@@ -8,13 +9,14 @@ ghost use Rattle.ch_history.specs.Limits.{IsMoment, IsSocket};
 
 use crate::answer::WorkerTurn;
 use crate::server::Server;
-use ch_base::{Frame, FrameFor, Text};
+use ch_base::{Printed, Shared, Text};
 use ch_desk::Desk;
 use ch_exchange::{ExTurn, Exchange};
 use ch_live::{Live, Turn};
 use ch_net::{Arrival, Link};
 use std::alloc::Global;
 use std::marker::Model;
+use std::sync::Arc;
 
 /// How a client speaks.
 #[derive(Drop)]
@@ -89,13 +91,12 @@ impl<L: Link> Client<L> {
 
     /// Delivers a frame to a live socket, if it is for this number. An exchange takes none, and the frame is
     /// dropped.
-    pub(crate) fn hand(&mut self, frame: FrameFor)
+    pub(crate) fn hand(&mut self, frame: Shared)
         ensures { self.new
             ≡ (if self.old.number == frame.socket then with_frame self.old frame else self.old) }
     {
-        let FrameFor { socket, frame } = frame;
-        if self.number == socket {
-            deliver(&mut self.protocol, frame);
+        if self.number == frame.socket() {
+            deliver(&mut self.protocol, frame.into_printed());
         }
     }
 
@@ -131,15 +132,15 @@ impl<L: Link> Client<L> {
     }
 }
 
-fn deliver<L: Link>(protocol: &mut Protocol<L>, frame: Frame)
+fn deliver<L: Link>(protocol: &mut Protocol<L>, printed: Arc<Printed>)
     ensures { spoken L.told L.Wire.told protocol.new
-        ≡ handed frame (spoken L.told L.Wire.told protocol.old) }
+        ≡ handed (arc_value printed) (spoken L.told L.Wire.told protocol.old) }
 {
     match protocol {
         Protocol::WebSocket(live) => {
-            live.deliver(frame);
+            live.deliver_shared(printed);
         }
-        Protocol::Http(_) => let_go(frame),
+        Protocol::Http(_) => let_go(printed),
     }
 }
 
@@ -191,4 +192,4 @@ fn step_of_exchange(turn: ExTurn) -> Step
 }
 
 /// Drops a frame that nobody takes.
-fn let_go(_frame: Frame) {}
+fn let_go(_printed: Arc<Printed>) {}

@@ -12,7 +12,7 @@ use crate::connected::{Connected, MOST_CLIENTS};
 use crate::leaving::Leaving;
 use crate::lists::Lists;
 use crate::server::Server;
-use ch_base::{FrameFor, Memory};
+use ch_base::{Memory, Shared};
 use ch_config::Config;
 use ch_desk::Desk;
 use ch_net::{Arrival, Link};
@@ -68,7 +68,7 @@ impl<L: Link> Clients<L> {
 
     /// Hands a frame to the first client with its socket's number, which is found in logarithmic time. The
     /// frame is dropped where there is none, or where the client is no live socket. It takes no memory.
-    pub fn hand(&mut self, frame: FrameFor)
+    pub fn hand(&mut self, frame: Shared)
         ensures { self.new ≡ record self.old { connected = handed_to self.old.connected frame } }
     {
         self.lists.connected.hand(frame);

@@ -9,7 +9,7 @@ ghost use Rattle.ch_history.specs.Limits.{IsMoment};
 use crate::client::{Client, Step};
 use crate::room::insert_reserved;
 use crate::server::Server;
-use ch_base::{FrameFor, Memory};
+use ch_base::{Memory, Shared};
 use ch_desk::Desk;
 use ch_net::Link;
 use std::alloc::Global;
@@ -61,10 +61,10 @@ impl<L: Link> Connected<L> {
     }
 
     /// Hands a frame to the first client with its socket's number. Where there is none, it is dropped.
-    pub(crate) fn hand(&mut self, frame: FrameFor)
+    pub(crate) fn hand(&mut self, frame: Shared)
         ensures { self.new ≡ handed_to self.old frame }
     {
-        let socket = frame.socket;
+        let socket = frame.socket();
         let at = self.rows.partition_point(|client| client.number() < socket);
         if at < self.rows.len() {
             self.rows[at].hand(frame);
@@ -126,4 +126,4 @@ impl<L: Link> Connected<L> {
 }
 
 /// Drops a frame that is for nobody.
-fn let_go(_frame: FrameFor) {}
+fn let_go(_frame: Shared) {}

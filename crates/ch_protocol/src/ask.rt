@@ -8,7 +8,7 @@ pub enum Ask {
 }
 
 /// What came of an ask: the answer of its call, or want of memory.
-#[derive(Debug, PartialEq, Eq, Drop)]
+#[derive(Debug, Drop)]
 pub enum Made {
     Chan(ChanAnswer),
     User(UserAnswer),

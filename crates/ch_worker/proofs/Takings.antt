@@ -1,5 +1,5 @@
 -- The Takes of a turn.
-use Rattle.std.proofs.Common.{◌≡◌, ◌+◌, ℕ, zero-add, List, [], ◌∷◌, ◌++◌, length, arith, map, refl, ap, ◌∙◌, sym, subst, append-nil}
+use Rattle.std.proofs.Common.{◌≡◌, ◌+◌, ℕ, zero-add, List, [], ◌∷◌, ◌++◌, map, refl, ap, ◌∙◌, sym, subst, append-nil}
 use Rattle.std.specs.Prelude.{Some, None}
 use Rattle.std.specs.List.{range_with_len}
 use Rattle.std.proofs.lemmas.List.{map-append}
@@ -38,10 +38,6 @@ pub none_taken : (came : Made) → taken_frames came ≡ None → (frames_in cam
 none_taken (made.Chan answer) e = absurd (let wrong : Some (frames_in (made.Chan answer)) ≡ None = e in cc)
 none_taken (made.User answer) e = absurd (let wrong : Some (frames_in (made.User answer)) ≡ None = e in cc)
 none_taken made.Memory e = (refl, refl)
-
-pub no_more : {A : Type 0} (xs : List A) → length xs ≡ 0 → xs ≡ []
-no_more [] none = refl
-no_more (x ∷ xs) none = absurd (omega (arith, none))
 
 -- ---- several
 

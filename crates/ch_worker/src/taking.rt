@@ -127,13 +127,13 @@ fn frames_of_user(answer: UserAnswer) -> FrameList
 }
 
 /// Hands each frame to its client.
-fn hand_all<L: Link>(frames: FrameList, clients: &mut Clients<L>) -> WorkerTurn
+fn hand_all<L: Link>(mut frames: FrameList, clients: &mut Clients<L>) -> WorkerTurn
     ensures clients { clients.new
         ≡ record clients.old { connected = all_handed clients.old.connected frames } }
     ensures answer { result ≡ any_frames frames }
 {
     let part = any_frames(&frames);
-    for frame in frames.into_vec() {
+    while let Some(frame) = frames.take_front() {
         clients.hand(frame);
     }
     part
