@@ -75,26 +75,23 @@ session_send =
     let inside : IsSend InsideSession.the_row = search (sendable, crosses, tally_send, activity_send) depth 24 in
     view_send InsideSession.the_row _ _ _ _ inside
 
-frame_sync : IsSync Frame.the_row
-frame_sync = search (sendable, crosses, text_sync) depth 24
-
 printed_send : IsSend Printed.the_row
 printed_send =
-    let inside : IsSend InsidePrinted.the_row = search (sendable, crosses, frame_send, text_send) depth 24 in
+    let inside : IsSend InsidePrinted.the_row = search (sendable, crosses, text_send) depth 24 in
     view_send InsidePrinted.the_row _ _ _ _ inside
 
 printed_sync : IsSync Printed.the_row
 printed_sync =
-    let inside : IsSync InsidePrinted.the_row = search (sendable, crosses, frame_sync, text_sync) depth 24 in
+    let inside : IsSync InsidePrinted.the_row = search (sendable, crosses, text_sync) depth 24 in
     view_sync InsidePrinted.the_row _ _ _ _ inside
 
 form_send : IsSend Form.the_row
-form_send = search (sendable, crosses, frame_send, printed_send, printed_sync) depth 24
+form_send = search (sendable, crosses, frame_send, printed_send, printed_sync, variants_send) depth 30
 
 -- a frame that waits may be shared by sockets of several threads
 waiting_send : IsSend Waiting.the_row
 waiting_send =
-    let inside : IsSend InsideWaiting.the_row = search (sendable, crosses, form_send) depth 24 in
+    let inside : IsSend InsideWaiting.the_row = declared_send InsideWaiting.the_type (form_send, tt) in
     view_send InsideWaiting.the_row _ _ _ _ inside
 
 -- the ring's fields in order: its base, three numbers, its cells, their deed, and the allocator

@@ -21,11 +21,13 @@ pub returns-then-at-len : goal.returns-then-at-len
 returns-then-at-len g c =
     let rows = c.self.inside.rows.items in
     let at = c.partition_point-at.result in
-    let p = λ (y : Client). ltb y.number c.args.frame.socket in
+    let socket = c.socket-socket.result in
+    let p = λ (y : Client). ltb y.number socket in
     let value = c.deref.ensures.value in
-    let point = subst (λ xs. IsPartitionPoint (λ y. p y ≡ true) (λ y. p y ≡ false) xs at) value
+    let split = subst (λ xs. IsPartitionPoint (λ y. p y ≡ true) (λ y. p y ≡ false) xs at) value
     (IsPartitionPoint-from_clause p c.deref.result.now at c.partition_point-at.ensures.partitioned
-    (IsPartitionedBy-ltb (λ y. y.number) c.deref.result.now c.args.frame.socket (subst AreAscending (sym value) c.self.invariant.1)) (λ a r f k. search rules)) in
+    (IsPartitionedBy-ltb (λ y. y.number) c.deref.result.now socket (subst AreAscending (sym value) c.self.invariant.1)) (λ a r f k. search rules)) in
+    let point = subst (λ s. IsPartitionPoint (λ (y : Client). ltb y.number s ≡ true) (λ y. ltb y.number s ≡ false) rows at) c.socket-socket.ensures split in
     let inside : at < length rows = omega (arith, c.if-at-len.true, c.len.ensures) in
     let there = is_there rows rows at c.index_mut.result.now refl inside c.index_mut.ensures.value in
     ap (λ x. slice_set rows at x) c.hand.ensures
@@ -35,10 +37,12 @@ pub returns-else-at-len : goal.returns-else-at-len
 returns-else-at-len g c =
     let rows = c.self.inside.rows.items in
     let at = c.partition_point-at.result in
-    let p = λ (y : Client). ltb y.number c.args.frame.socket in
+    let socket = c.socket-socket.result in
+    let p = λ (y : Client). ltb y.number socket in
     let value = c.deref.ensures.value in
-    let point = subst (λ xs. IsPartitionPoint (λ y. p y ≡ true) (λ y. p y ≡ false) xs at) value
+    let split = subst (λ xs. IsPartitionPoint (λ y. p y ≡ true) (λ y. p y ≡ false) xs at) value
     (IsPartitionPoint-from_clause p c.deref.result.now at c.partition_point-at.ensures.partitioned
-    (IsPartitionedBy-ltb (λ y. y.number) c.deref.result.now c.args.frame.socket (subst AreAscending (sym value) c.self.invariant.1)) (λ a r f k. search rules)) in
+    (IsPartitionedBy-ltb (λ y. y.number) c.deref.result.now socket (subst AreAscending (sym value) c.self.invariant.1)) (λ a r f k. search rules)) in
+    let point = subst (λ s. IsPartitionPoint (λ (y : Client). ltb y.number s ≡ true) (λ y. ltb y.number s ≡ false) rows at) c.socket-socket.ensures split in
     let past : length rows ≤ at = omega (arith, c.if-at-len.false, c.len.ensures) in
     sym c.self.view_is ∙ sym (handed_past rows c.args.frame at past point) ∙ ap (λ xs. handed_to xs c.args.frame) c.self.view_is
