@@ -213,10 +213,16 @@ fn a_shared_frame_is_sent_by_its_text(rt: HostRuntime) -> Result<(), Fail> {
     let mut live = live_of(alloc, &config, wire)?;
     let mut press = Press::new(alloc);
     assert_eq!(rt; live.deliver(event(alloc)?), Delivered::Kept);
-    assert_eq!(rt; live.deliver_shared(press.print(event(alloc)?)?), Delivered::Kept);
+    assert_eq!(rt;
+        live.deliver_shared(press.print(event(alloc)?)?),
+        Delivered::Kept
+    );
     assert_eq!(rt; live.turn(&rt, &mut bench, &config, 0), Turn::Moved);
     assert!(rt; has_sent(&live.wire, &[OPENED, EVENT, EVENT]));
-    assert_eq!(rt; live.deliver_shared(press.print(Frame::Kill)?), Delivered::Kept);
+    assert_eq!(rt;
+        live.deliver_shared(press.print(Frame::Kill)?),
+        Delivered::Kept
+    );
     let turn = live.turn(&rt, &mut bench, &config, 0);
     assert_eq!(rt; turn, ended(4009, Farewell::Sent));
     Ok(())
