@@ -1,6 +1,6 @@
 -- Clients may go to another thread, where their links and wires may.
 use denote.RattleType.{RattleType}
-use denote.Param.Send.{IsSend, IsSync, sendable, view_send, view_sync}
+use denote.Param.Send.{IsSend, sendable, view_send}
 use denote.Param.SendFields.{declared_send, as_row_send, variants_send}
 use denote.Struct.Field.{u64-field, usize-field, row_field}
 use Rattle.std.proofs.Crossing.{crosses, send}
@@ -13,10 +13,8 @@ use Rattle.circular_buffer.specs.contracts.cells.Deed as Deed
 use Rattle.circular_buffer.specs.contracts.heap.HeapCircularBuffer as Buffer
 use Rattle.circular_buffer.specs.contracts.heap.HeapCircularBuffer.TheInside as InsideBuffer
 use Rattle.circular_buffer.proofs.Crosses.{Cells-send, Deed-send}
-use Rattle.ch_base.proofs.Crossing.{text_send, text_sync, frame_send}
+use Rattle.ch_base.proofs.Crossing.{text_send, frame_send, printed_send, printed_sync}
 use Rattle.ch_base.specs.contracts.frame.Frame as Frame
-use Rattle.ch_base.specs.contracts.printed.Printed as Printed
-use Rattle.ch_base.specs.contracts.printed.Printed.TheInside as InsidePrinted
 use Rattle.ch_rate.specs.contracts.activity.Activity as Activity
 use Rattle.ch_rate.specs.contracts.rate.Rate as Rate
 use Rattle.ch_rate.specs.contracts.rate.Rate.TheInside as InsideRate
@@ -74,16 +72,6 @@ session_send : IsSend Session.the_row
 session_send =
     let inside : IsSend InsideSession.the_row = search (sendable, crosses, tally_send, activity_send) depth 24 in
     view_send InsideSession.the_row _ _ _ _ inside
-
-printed_send : IsSend Printed.the_row
-printed_send =
-    let inside : IsSend InsidePrinted.the_row = search (sendable, crosses, text_send) depth 24 in
-    view_send InsidePrinted.the_row _ _ _ _ inside
-
-printed_sync : IsSync Printed.the_row
-printed_sync =
-    let inside : IsSync InsidePrinted.the_row = search (sendable, crosses, text_sync) depth 24 in
-    view_sync InsidePrinted.the_row _ _ _ _ inside
 
 form_send : IsSend Form.the_row
 form_send = search (sendable, crosses, frame_send, printed_send, printed_sync, variants_send) depth 30
