@@ -47,6 +47,14 @@ held-quiet now ns = append-nil (filter (λ n. true) (not_due now ns)) ∙ filter
 pub hooks-quiet : (now : ℕ) (ns : List HeldNotice) → hooks_after now [] ns ≡ vacated_events (due now ns)
 hooks-quiet now ns = append-nil (vacated_events (due now ns))
 
+-- events that are made in a log that is as before
+pub occurs : (old new : Parts) (now : ℕ) (events made log : List Hook) (held : List HeldNotice) → log ≡ old.log → held ≡ old.held → made ≡ events
+    → new.log ≡ log ++ hooks_after now made held → new.held ≡ held_after now made held → Occur old new now events
+occurs old new now events made log held log_stays held_stays made_is logged holds = record {
+  log = logged ∙ ap₂ (λ ks es. ks ++ hooks_after now es held) log_stays made_is ∙ ap (λ ns. old.log ++ hooks_after now events ns) held_stays;
+  held = holds ∙ ap₂ (held_after now) made_is held_stays;
+}
+
 -- The parts, once events occurred: nothing is due
 
 none_due : (old new : Parts) (now : ℕ) (events : List Hook) → Occur old new now events → due now new.held ≡ []

@@ -124,16 +124,6 @@ keeps old new now same c at on = same c at ∙ sym (ap (renewed at (latest_in ol
 pub IsUnchanged-itself : (k : Parts) → IsUnchanged k k
 IsUnchanged-itself k = record { subs = refl; latest = λ c at. refl; frames = λ w. refl; log = refl; held = refl; spare = omega arith }
 
-pub IsUnchanged-twice : (old mid new : Parts) → IsUnchanged old mid → IsUnchanged mid new → IsUnchanged old new
-IsUnchanged-twice old mid new first second = record {
-  subs = second.subs ∙ first.subs;
-  latest = λ c at. second.latest c at ∙ first.latest c at;
-  frames = λ w. second.frames w ∙ first.frames w;
-  log = second.log ∙ first.log;
-  held = second.held ∙ first.held;
-  spare = let a : old.spare ≤ mid.spare = first.spare in let b : mid.spare ≤ new.spare = second.spare in omega (arith, a, b);
-}
-
 -- a call that changes nothing, and finds its answer or no memory
 pub read_by : (k : Parts) (now w : ℕ) (call : ChanCall) (right : ChanAnswer) (r : Result ChanAnswer Memory) → Moves k k now (entry w call right)
     → IfOk r (λ a. a ≡ right) → MatchResult r (λ a. Moves k k now (entry w call a)) (λ _. IsUnchanged k k)

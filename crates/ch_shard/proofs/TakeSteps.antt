@@ -2,12 +2,15 @@
 use Rattle.std.proofs.Common.{◌≡◌, ◌≢◌, ℕ, length, ap, ap₂, true, false, ◌==◌, cond, List, [], ◌++◌, refl, sym, ◌∙◌, append-nil, arith}
 use Rattle.std.proofs.lemmas.Bool.Decides.{nat_tests}
 use Rattle.ch_base.specs.Growth.{entry}
+use Rattle.ch_base.specs.declared.channel.ChanCall.{ChanCall}
 use Rattle.ch_base.specs.declared.channel.ChanCall.TheVariants.{Take, TakeHooks, Names, Look, Users}
 use Rattle.ch_base.specs.declared.channel.ChanAnswer.{ChanAnswer}
-use Rattle.ch_history.specs.Entries.{ChanEntry}
+use Rattle.ch_history.specs.declared.rows.HeldNotice.{HeldNotice}
+use Rattle.ch_history.specs.Entries.{ChanEntry, ChanHistory}
 use Rattle.ch_history.specs.Subscriptions.{is_joined}
-use Rattle.ch_history.specs.Held.{due, not_due, vacated_events}
-use Rattle.ch_history.proofs.Held.{due-after}
+use Rattle.ch_history.specs.Clock.{clock_with, clock}
+use Rattle.ch_history.specs.Held.{due, not_due, vacated_events, held}
+use Rattle.ch_history.proofs.Held.{due-after, due-held}
 use Rattle.ch_history.proofs.Lists.{list_any-false}
 use Rattle.ch_history.proofs.Subscriptions.{opens_nothing}
 use Rattle.ch_outbox.specs.Outbox.{frames_of}
@@ -36,6 +39,12 @@ takes_frames old new now w a gives =
           let spare : new.spare ≡ old.spare = gives.spare in
           omega (arith, as_many, spare, enough);
     }
+
+-- a Take carries no moment, and nothing is due at the clock
+pub none_due : (h : ChanHistory) (now : ℕ) (call : ChanCall) (notices : List HeldNotice) → call ≡ Take → now ≡ clock_with (clock h) call → notices ≡ held h → due now notices ≡ []
+none_due h now call notices is clocked held_is =
+    let timeless : clock_with (clock h) Take ≡ clock h = omega arith in
+    ap₂ due (clocked ∙ ap (clock_with (clock h)) is ∙ timeless) held_is ∙ due-held h
 
 pub takes_hooks : (old new : Parts) (now w at : ℕ) (a : ChanAnswer) → TakeHooksGives old new now a → Moves old new now (entry w (TakeHooks at) a)
 takes_hooks old new now w at a gives =

@@ -1,4 +1,4 @@
-ghost use Rattle.std.specs.Prelude.{◌≡◌, ◌<◌, ◌≤◌, ℕ, [], ◌∷◌, ◌++◌, length, IsOk, IfOk, MatchResult};
+ghost use Rattle.std.specs.Prelude.{◌≡◌, ◌≢◌, ◌<◌, ◌≤◌, ℕ, [], ◌∷◌, ◌++◌, length, IsOk, IfOk, MatchResult};
 ghost use Rattle.ch_base.specs.Growth.{entry};
 
 use ch_base::{ChanAnswer, ChanCall, Memory};
@@ -88,21 +88,24 @@ impl Channels {
         ensures take { call.now ≡ ChanCall.Take → IsOk result }
         ensures kind { IfOk result (IsAnswerTo call.now) }
     {
-        if let ChanCall::Take = call {
-            return Ok(self.take(caller));
+        match call {
+            ChanCall::Take => Ok(self.take(caller)),
+            _ => {
+                self.log.reserve(self.log.due(now))?;
+                let answer = self.answer(caller, call, now)?;
+                self.log.release(now);
+                Ok(answer)
+            }
         }
-        self.log.reserve(self.log.due(now))?;
-        let answer = self.answer(caller, call, now)?;
-        self.log.release(now);
-        Ok(answer)
     }
 
-    /// Answers the call, and changes what it changes; the notices that are due afterwards are still to be released.
+    /// Answers a call other than `Take`, and changes what it changes; the notices that are due afterwards are still to be released.
     /// After want of memory everything is as it was.
     fn answer(&mut self, caller: u64, call: &ChanCall, now: u64) -> Result<ChanAnswer, Memory>
         requires caller { caller < 64 }
         requires formed { IsWellFormed call.now }
         requires moment { IsMoment now }
+        requires other { call.now ≢ ChanCall.Take }
         requires room { length (due now self.old.held) ≤ self.old.spare }
         ensures moves { MatchResult result (λ answer. Moves self.old self.new now (entry caller call.now answer)) (λ _. IsUnchanged self.old self.new) }
         ensures kind { IfOk result (IsAnswerTo call.now) }
@@ -134,7 +137,7 @@ impl Channels {
                 body,
                 ..
             } => self.say(*socket, channel, event, body, now),
-            ChanCall::Take => Ok(self.take(caller)),
+            ChanCall::Take => unreachable!(),
             ChanCall::TakeHooks { .. } => Ok(self.take_hooks(now)),
             ChanCall::Names { prefix } => self.names(prefix),
             ChanCall::Look { channel, .. } => self.look(channel, now),

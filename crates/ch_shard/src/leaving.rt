@@ -11,7 +11,12 @@ use ch_presence::Presence;
 use ch_subs::Subs;
 
 impl Channels {
-    pub(crate) fn leave(&mut self, socket: u64, channel: &Text, now: u64) -> Result<ChanAnswer, Memory>
+    pub(crate) fn leave(
+        &mut self,
+        socket: u64,
+        channel: &Text,
+        now: u64,
+    ) -> Result<ChanAnswer, Memory>
         ensures { MatchResult result (λ answer. LeaveGives self.old self.new now socket channel.now answer) (λ _. IsUnchanged self.old self.new) }
     {
         if !self.subs.on(socket, channel) {

@@ -46,7 +46,7 @@ pub fn make_room(
     ensures held { log.new.held ≡ log.old.held }
     ensures spare { log.old.spare ≤ log.new.spare }
     ensures room_frames { OnOk result (HasRoom outbox.new made.now.frames.items) }
-    ensures room_hooks { OnOk result (vec_len made.now.hooks + length (due now log.old.held) ≤ log.new.spare) }
+    ensures room_hooks { OnOk result (vec_len made.now.hooks + length (due now log.new.held) ≤ log.new.spare) }
 {
     reserve_for(outbox, made.frames.as_slice())?;
     log.reserve(made.hooks.len() as u64 + log.due(now))

@@ -52,8 +52,7 @@ fn occupied_again(alloc: Global, at: u16, next: u16) -> Result<String, Fail> {
 #[test]
 fn vacated_notices_are_held(rt: HostRuntime) -> Result<(), Fail> {
     let alloc: Global = rt.alloc();
-    let table: [(u16, u16, &str); 2] =
-        [(3_009, 3_010, "0"), (3_010, 9_000, "vacated occupied 0")];
+    let table: [(u16, u16, &str); 2] = [(3_009, 3_010, "0"), (3_010, 9_000, "vacated occupied 0")];
     for (at, next, want) in table {
         let got = occupied_again(alloc, at, next)?;
         assert_eq!(rt; got.as_str(), want);

@@ -8,7 +8,7 @@ use Rattle.ch_shard.proofs.Simulation.{moves_by, read_by, Moves-as, answers_so}
 use Rattle.ch_shard.proofs.JoinSteps.{joins, join_kind}
 use Rattle.ch_shard.proofs.LeaveSteps.{leaves, loses}
 use Rattle.ch_shard.proofs.EventSteps.{publishes, says, say_kind}
-use Rattle.ch_shard.proofs.TakeSteps.{takes_frames, takes_hooks, looks, lists_users, lists_names}
+use Rattle.ch_shard.proofs.TakeSteps.{takes_hooks, looks, lists_users, lists_names}
 use Rattle.ch_shard.proofs.channels.Channels.answer.Goals as goal
 
 pub returns-in-Join-clause-moves : goal.returns-in-Join-clause-moves
@@ -50,10 +50,6 @@ returns-in-Say-clause-kind c =
     answers_so (IsAnswerTo c.args.call.now) (SayGives c.args.self.now c.say.new.self c.args.now c.in-Say.socket c.in-Say.channel c.in-Say.event c.in-Say.body) _ _
     (λ a gives. let P = λ (x : ChanCall). IsAnswerTo x a in
     subst P (sym c.in-Say.is) (say_kind c.args.self.now c.say.new.self c.args.now c.in-Say.socket c.in-Say.channel c.in-Say.event c.in-Say.body c.in-Say.at a gives)) c.say.ensures
-
-pub returns-in-Take-clause-moves : goal.returns-in-Take-clause-moves
-returns-in-Take-clause-moves c =
-    (Moves-as _ _ _ _ _ _ _ c.in-Take.is (takes_frames _ _ _ _ _ c.take.ensures))
 
 pub returns-in-TakeHooks-clause-moves : goal.returns-in-TakeHooks-clause-moves
 returns-in-TakeHooks-clause-moves c =

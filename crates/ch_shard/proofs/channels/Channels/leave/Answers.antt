@@ -1,9 +1,13 @@
-use Rattle.std.proofs.Common.{List, ◌∙◌, ◌++◌, All, ap, sym, subst}
+use Rattle.std.proofs.Common.{List, ◌≡◌, ◌∙◌, ◌++◌, true, All, refl, ap, ap₂, sym, subst}
 use Rattle.ch_history.specs.declared.rows.Subscription.{Subscription}
+use Rattle.ch_history.specs.Deliveries.{for_owner}
+use Rattle.ch_history.specs.Subscriptions.{is_on}
 use Rattle.ch_presence.specs.declared.present.Present.{Present}
 use Rattle.ch_subs.specs.Subs.{without_one}
 use Rattle.ch_shard.specs.Sound.{IsSound}
-use Rattle.ch_shard.specs.Parting.{leave_frames}
+use Rattle.ch_hooklog.specs.HookLog.{IsOfOneCall}
+use Rattle.ch_shard.specs.Parting.{leave_frames, leave_hooks}
+use Rattle.ch_shard.proofs.Occurring.{occurs, leave-call}
 use Rattle.ch_shard.proofs.Sounds.{IsSound-leave}
 use Rattle.ch_shard.proofs.Owners.{OwnsFrame, leave_owned}
 use Rattle.ch_shard.proofs.channels.Channels.leave.Goals as goal
@@ -19,7 +23,27 @@ hand_over-requires-clause-owners c =
     (leave_owned c.self.inside.subs c.args.channel.now c.args.socket c.self.invariant.owners)
 
 pub hand_over-requires-clause-call : goal.hand_over-requires-clause-call
-hand_over-requires-clause-call c = ?
+hand_over-requires-clause-call c =
+    subst IsOfOneCall (sym (c.in_ok-part.ensures.hooks ∙ ap (λ ks. ks ++ leave_hooks c.self.inside.subs c.args.channel.now c.args.socket) c.new-made.ensures.hooks))
+    (leave-call c.self.inside.subs c.args.channel.now c.args.socket)
+
+pub returns : goal.returns
+returns c =
+    let d = c.args.channel.now in
+    let socket = c.args.socket in
+    let xs = c.self.inside.subs in
+    let there : is_on xs socket d ≡ true = sym c.on.ensures ∙ c.if-not-on.false in
+    let frames = c.in_ok-part.ensures.frames ∙ ap (λ ds. ds ++ leave_frames xs d socket) c.new-made.ensures.frames in
+    let hooks = c.in_ok-part.ensures.hooks ∙ ap (λ ks. ks ++ leave_hooks xs d socket) c.new-made.ensures.hooks in
+    rw (← c.self.view_is) (rw there (
+      refl,
+      record {
+        subs_now = c.leave.ensures.subs;
+        latest = λ _ at. refl;
+        frames = λ w. c.hand_over.ensures.frames w ∙ ap₂ (λ ws ds. ws ++ for_owner w ds) (c.in_ok-make_room.ensures.frames w) frames;
+        hooks = occurs _ _ c.args.now _ _ _ _ c.in_ok-make_room.ensures.hooks c.in_ok-make_room.ensures.held hooks c.hand_over.ensures.hooks c.hand_over.ensures.held;
+      },
+    ))
 
 pub invariant_of-self-2 : goal.invariant_of-self-2
 invariant_of-self-2 c =

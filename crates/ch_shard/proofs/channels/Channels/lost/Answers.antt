@@ -8,7 +8,7 @@ use Rattle.ch_shard.specs.Sound.{IsSound}
 use Rattle.ch_shard.proofs.Sounds.{IsSound-lost}
 use Rattle.ch_hooklog.specs.HookLog.{IsOfOneCall}
 use Rattle.ch_history.specs.Subscriptions.{channels_in}
-use Rattle.ch_shard.proofs.Occurring.{lost-call}
+use Rattle.ch_shard.proofs.Occurring.{occurs, lost-call}
 use Rattle.ch_shard.proofs.Owners.{OwnsFrame, lost_owned}
 use Rattle.ch_shard.proofs.channels.Channels.lost.Goals as goal
 
@@ -31,7 +31,7 @@ returns c =
         subs_now = c.lost-count.ensures.subs;
         latest = λ d at. refl;
         frames = λ w. c.hand_over.ensures.frames w ∙ ap₂ (λ ws ds. ws ++ for_owner w ds) (c.in_ok-make_room.ensures.frames w) c.in_ok-made.ensures.frames;
-        hooks = ?;
+        hooks = occurs _ _ c.args.now _ _ _ _ c.in_ok-make_room.ensures.hooks c.in_ok-make_room.ensures.held c.in_ok-made.ensures.hooks c.hand_over.ensures.hooks c.hand_over.ensures.held;
       },
     )
 

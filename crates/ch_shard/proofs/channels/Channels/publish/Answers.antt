@@ -1,4 +1,4 @@
-use Rattle.std.proofs.Common.{◌∙◌, ◌++◌, length, ap, ap₂, refl, append-nil, All, sym, subst}
+use Rattle.std.proofs.Common.{◌∙◌, ◌++◌, length, ap, ap₂, refl, All, sym, subst}
 use Rattle.std.specs.Arc.{arc_value}
 use Rattle.ch_base.specs.declared.channel.ChanAnswer.TheVariants.{Sent}
 use Rattle.ch_history.specs.Deliveries.{for_owner}
@@ -8,6 +8,7 @@ use Rattle.ch_hooklog.specs.HookLog.{IsOfOneCall}
 use Rattle.ch_shard.specs.Parts.{Parts}
 use Rattle.ch_shard.specs.Told.{told}
 use Rattle.ch_history.specs.Frames.{is_other}
+use Rattle.ch_shard.proofs.Occurring.{occurs}
 use Rattle.ch_shard.proofs.Owners.{OwnsFrame, told_owned}
 use Rattle.ch_shard.proofs.channels.Channels.publish.Goals as goal
 
@@ -35,6 +36,6 @@ returns c =
       subs = refl;
       latest = c.in_ok-keep.ensures.ok;
       frames = λ w. c.hand_over.ensures.frames w ∙ ap₂ (λ ws ds. ws ++ for_owner w ds) (c.in_ok-make_room.ensures.frames w) told_all;
-      hooks = ?;
+      hooks = occurs _ _ c.args.now _ _ _ _ c.in_ok-make_room.ensures.hooks c.in_ok-make_room.ensures.held c.new-hooks.ensures.items c.hand_over.ensures.hooks c.hand_over.ensures.held;
     }
     )

@@ -6,6 +6,7 @@ use Rattle.ch_history.specs.Deliveries.{for_owner}
 use Rattle.ch_history.specs.Frames.{is_other}
 use Rattle.ch_history.specs.Subscriptions.{on_channel, is_on}
 use Rattle.ch_shard.specs.Told.{told}
+use Rattle.ch_shard.proofs.Occurring.{occurs}
 use Rattle.ch_shard.proofs.Owners.{OwnsFrame, told_owned}
 use Rattle.ch_shard.proofs.channels.Channels.say.Goals as goal
 
@@ -37,6 +38,6 @@ returns c =
         subs_now = refl;
         latest = λ _ at. refl;
         frames = λ w. c.hand_over.ensures.frames w ∙ ap₂ (λ ws ds. ws ++ for_owner w ds) (c.in_ok-make_room.ensures.frames w) frames;
-        hooks = ?;
+        hooks = occurs _ _ c.args.now _ _ _ _ c.in_ok-make_room.ensures.hooks c.in_ok-make_room.ensures.held hooks c.hand_over.ensures.hooks c.hand_over.ensures.held;
       },
     ))
