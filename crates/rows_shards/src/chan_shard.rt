@@ -267,14 +267,25 @@ fn count_events(mut frames: FrameList) -> u64 {
     count
 }
 
+/// How many texts a publish to `a` prints.
+fn print_publish(alloc: Global, shard: &mut ChanShard) -> Result<u64, Memory> {
+    let before = shard.texts();
+    shard.apply(0, &publish(alloc, "a")?)?;
+    Ok(shard.texts().saturating_sub(before))
+}
+
+/// How many texts a publish to the full room prints, and how many events each of the two callers takes then.
+fn publish_to_room(alloc: Global) -> Result<[u64; 3], Memory> {
+    let mut shard = full_room(alloc)?;
+    let texts = print_publish(alloc, &mut shard)?;
+    let first = take_events(&mut shard, 0)?;
+    let second = take_events(&mut shard, 1)?;
+    Ok([texts, first, second])
+}
+
 #[test]
 fn a_publish_to_a_hundred_sockets_prints_one_text(rt: HostRuntime) -> Result<(), Fail> {
     let alloc: Global = rt.alloc();
-    let mut shard = full_room(alloc)?;
-    let before = shard.texts();
-    shard.apply(0, &publish(alloc, "a")?)?;
-    let printed = shard.texts().saturating_sub(before);
-    let events = (take_events(&mut shard, 0)?, take_events(&mut shard, 1)?);
-    assert_eq!(rt; (printed, events), (1, (50, 50)));
+    assert_eq!(rt; publish_to_room(alloc)?, [1, 50, 50]);
     Ok(())
 }
