@@ -150,8 +150,10 @@ fn frame_word(frame: &Frame) -> &'static str {
 fn push_answer(alloc: Global, words: &mut String, answer: ChanAnswer) -> Result<(), Fail> {
     match answer {
         ChanAnswer::Frames(mut frames) => {
-            while let Some(item) = frames.take_front() {
-                words.push_str(frame_word(item.frame()))?;
+            for _place in 0..frames.len() {
+                if let Some(item) = frames.take_front() {
+                    words.push_str(frame_word(item.frame()))?;
+                }
             }
         }
         ChanAnswer::Hooks(hooks) => {
@@ -259,12 +261,18 @@ fn take_events(shard: &mut ChanShard, caller: u64) -> Result<u64, Memory>
 
 fn count_events(mut frames: FrameList) -> u64 {
     let mut count = 0_u64;
-    while let Some(item) = frames.take_front() {
-        if frame_word(item.frame()) == "event " {
-            count = count.saturating_add(1);
-        }
+    for _place in 0..frames.len() {
+        count = count.saturating_add(take_event(&mut frames));
     }
     count
+}
+
+/// Takes the first frame out: 1 where it's an event, and 0 otherwise.
+fn take_event(frames: &mut FrameList) -> u64 {
+    match frames.take_front() {
+        Some(item) if frame_word(item.frame()) == "event " => 1,
+        _ => 0,
+    }
 }
 
 /// How many texts a publish to `a` prints.
