@@ -98,9 +98,11 @@ fn frame_words(alloc: Global, item: &Shared) -> Result<String, Fail> {
 fn push_answer(alloc: Global, words: &mut String, answer: UserAnswer) -> Result<(), Fail> {
     match answer {
         UserAnswer::Frames(mut frames) => {
-            while let Some(item) = frames.take_front() {
-                let text = frame_words(alloc, &item)?;
-                words.push_str(text.as_str())?;
+            for _place in 0..frames.len() {
+                if let Some(item) = frames.take_front() {
+                    let text = frame_words(alloc, &item)?;
+                    words.push_str(text.as_str())?;
+                }
             }
         }
         plain => {
