@@ -182,20 +182,43 @@ fn push_answer(alloc: Global, words: &mut String, answer: ChanAnswer) -> Result<
     Ok(())
 }
 
+/// Makes the call of a letter as caller 3, at the moment.
+fn serve(alloc: Global, shard: &mut ChanShard, letter: u8, at: u16) -> Result<ChanAnswer, Memory> {
+    let call = call(alloc, letter, at)?;
+    shard.apply(3, &call)
+}
+
+/// What caller 3 is answered to the letters, each at its moment.
+fn answers(
+    alloc: Global,
+    shard: &mut ChanShard,
+    letters: &[u8],
+    moments: &[u16],
+) -> Result<String, Fail> {
+    let mut words = String::new(alloc);
+    for (letter, at) in letters.iter().zip(moments) {
+        let answer = serve(alloc, shard, *letter, *at)?;
+        push_answer(alloc, &mut words, answer)?;
+    }
+    Ok(words)
+}
+
+/// The letters of the shard's tail.
+fn tail(alloc: Global, shard: &ChanShard) -> Result<String, Fail> {
+    let mut letters = String::new(alloc);
+    for i in 0..shard.tail_len() {
+        letters.push(char::from(shard.tail_at(i).letter))?;
+    }
+    Ok(letters)
+}
+
 /// What caller 3 of a new shard is answered at the moments, the letters of the shard's tail and its open subscriptions.
 fn told(alloc: Global, letters: &[u8], moments: &[u16]) -> Result<String, Fail> {
     let mut shard = ChanShard::new(alloc)?;
-    let mut words = String::new(alloc);
-    for (letter, at) in letters.iter().zip(moments) {
-        let answer = shard.apply(3, &call(alloc, *letter, *at)?)?;
-        push_answer(alloc, &mut words, answer)?;
-    }
-    for i in 0..shard.tail_len() {
-        words.push(char::from(shard.tail_at(i).letter))?;
-    }
-    let open = format!(in alloc; " {}", shard.open_subs())?;
-    words.push_str(open.as_str())?;
-    Ok(words)
+    let answers = answers(alloc, &mut shard, letters, moments)?;
+    let tail = tail(alloc, &shard)?;
+    let (answers, tail, open) = (answers.as_str(), tail.as_str(), shard.open_subs());
+    Ok(format!(in alloc; "{answers}{tail} {open}")?)
 }
 
 #[test]

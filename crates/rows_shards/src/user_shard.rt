@@ -114,12 +114,18 @@ fn push_answer(alloc: Global, words: &mut String, answer: UserAnswer) -> Result<
     Ok(())
 }
 
+/// Makes the call of a letter.
+fn serve(alloc: Global, shard: &mut UserShard, letter: u8) -> Result<UserAnswer, Memory> {
+    let call = call(alloc, letter)?;
+    shard.apply(caller(letter), &call)
+}
+
 /// What these calls of a new shard are answered.
 fn told(alloc: Global, letters: &[u8]) -> Result<String, Fail> {
     let mut shard = UserShard::new(alloc)?;
     let mut words = String::new(alloc);
     for letter in letters {
-        let answer = shard.apply(caller(*letter), &call(alloc, *letter)?)?;
+        let answer = serve(alloc, &mut shard, *letter)?;
         push_answer(alloc, &mut words, answer)?;
     }
     let open = format!(in alloc; "{}", shard.open_signs())?;
@@ -143,7 +149,7 @@ fn a_frame_of_two_sockets_is_printed_once(rt: HostRuntime) -> Result<(), Fail> {
     let alloc: Global = rt.alloc();
     let mut shard = UserShard::new(alloc)?;
     for letter in b"23E" {
-        shard.apply(caller(*letter), &call(alloc, *letter)?)?;
+        serve(alloc, &mut shard, *letter)?;
     }
     assert_eq!(rt; shard.texts(), 1);
     Ok(())
