@@ -1,5 +1,4 @@
-ghost use Rattle.std.specs.Prelude.{◌≡◌, ◌≤◌, ◌^◌, false, length, IfOk};
-ghost use Rattle.ch_base.specs.Printed.{is_opened};
+ghost use Rattle.std.specs.Prelude.{◌≡◌, ◌≤◌, ◌^◌, length, IfOk};
 ghost use Rattle.ch_config.specs.Config.{IsConfig};
 ghost use Rattle.ch_config.specs.declared.config.Config.{Config};
 ghost use Rattle.ch_history.specs.Limits.{IsMoment};
@@ -10,7 +9,6 @@ use ch_config::Config;
 use ch_desk::Bench;
 use ch_live::{Delivered, End, Farewell, Live, Turn};
 use ch_net::{MemWire, Message, OtherSide, Script};
-use ch_print::Press;
 use ch_session::Session;
 use std::alloc::Global;
 use std::test::Fail;
@@ -27,8 +25,6 @@ const NOT_SUBSCRIBED: &str =
 
 const REFUSED: &str =
     r#"{"event":"pusher:error","data":{"message":"application does not exist","code":4001}}"#;
-
-const EVENT: &str = r#"{"event":"b","channel":"a","data":"x"}"#;
 
 const PING: &str = r#"{"event":"pusher:ping","data":{}}"#;
 
@@ -183,48 +179,6 @@ fn a_socket_that_takes_nothing_is_cut(rt: HostRuntime) -> Result<(), Fail> {
     let turn = live.turn(&rt, &mut bench, &config, 0);
     assert_eq!(rt; turn, ended(4009, Farewell::Sent));
     assert_eq!(rt; live.wire.code(), Some(4009));
-    Ok(())
-}
-
-/// An event on the channel `a`.
-fn event(alloc: Global) -> Result<Frame, Memory>
-    ensures { IfOk result (λ frame. is_opened frame ≡ false) }
-{
-    Ok(Frame::Event {
-        channel: Text::of(alloc, "a")?,
-        event: Text::of(alloc, "b")?,
-        body: Text::of(alloc, "\"x\"")?,
-        user_id: None,
-    })
-}
-
-#[test]
-fn a_shared_frame_is_sent_by_its_text(rt: HostRuntime) -> Result<(), Fail> {
-    let alloc: Global = rt.alloc();
-    let config = Config::built_in(alloc)?;
-    let mut bench = Bench::new(alloc, config.chan_shards, config.user_shards)?;
-    let wire = wire_of(
-        alloc,
-        &[],
-        OtherSide::Stays,
-        Vec::new(alloc),
-        Vec::new(alloc),
-    )?;
-    let mut live = live_of(alloc, &config, wire)?;
-    let mut press = Press::new(alloc);
-    assert_eq!(rt; live.deliver(event(alloc)?), Delivered::Kept);
-    assert_eq!(rt;
-        live.deliver_shared(press.print(event(alloc)?)?),
-        Delivered::Kept
-    );
-    assert_eq!(rt; live.turn(&rt, &mut bench, &config, 0), Turn::Moved);
-    assert!(rt; has_sent(&live.wire, &[OPENED, EVENT, EVENT]));
-    assert_eq!(rt;
-        live.deliver_shared(press.print(Frame::Kill)?),
-        Delivered::Kept
-    );
-    let turn = live.turn(&rt, &mut bench, &config, 0);
-    assert_eq!(rt; turn, ended(4009, Farewell::Sent));
     Ok(())
 }
 
