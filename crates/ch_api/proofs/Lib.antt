@@ -1,6 +1,5 @@
 pub mod JoinedTexts
 pub mod PlannedRequests
-pub mod PresenceNames
 pub mod RowOrderLemmas
 pub mod RowsByName
 pub mod ServablePlans

@@ -10,9 +10,9 @@ use Rattle.ch_config.specs.Config.{IsConfig}
 use Rattle.ch_config.specs.declared.config.Config.{Config}
 use Rattle.ch_history.specs.ChannelName.{begins, is_good_name, is_presence, is_cache}
 use Rattle.ch_history.specs.Limits.{IsMoment, is_user_id}
-use Rattle.ch_history.specs.Placement.{shard_of, fnv_from, fnv_offset}
-use Rattle.ch_protocol.specs.ClientMessages.{is_subscribable}
-use Rattle.ch_protocol.specs.UserChannels.{channel_user, is_user_channel, user_prefix, behind_prefix}
+use Rattle.ch_history.specs.Placement.{shard_of, fnv_from}
+use Rattle.ch_history.specs.declared.limits.TheConstants.{FNV_OFFSET}
+use Rattle.ch_history.specs.UserChannels.{channel_user, is_user_channel, user_prefix, behind_prefix, is_subscribable}
 use Rattle.ch_protocol.specs.declared.ask.Ask.{Ask}
 use Rattle.ch_protocol.specs.declared.ask.Ask.TheVariants.{Chan, User}
 use Rattle.ch_sig.specs.Parameters.{value_of}
@@ -28,7 +28,7 @@ use Rattle.ch_requests.specs.declared.trigger.Trigger.{Trigger}
 use Rattle.ch_api.specs.Servable.{IsServable, AreServable}
 
 shard_below : (name : List ℕ) (shards : ℕ) → 1 ≤ shards → shard_of name shards < shards
-shard_below name shards some = mod_below (fnv_from fnv_offset name) shards some
+shard_below name shards some = mod_below (fnv_from FNV_OFFSET name) shards some
 
 -- ---- events
 

@@ -5,12 +5,11 @@ ghost use Rattle.std.specs.List.{list_all};
 ghost use Rattle.std.specs.Option.{option_copied};
 ghost use Rattle.std.specs.Str.Parse.{digits_value};
 ghost use Rattle.ch_requests.specs.Authorization.{is_authorized, is_value, is_near, is_timestamp, difference, is_digest, signature_of};
-ghost use Rattle.ch_requests.specs.Routes.{method_of};
 ghost use Rattle.ch_sig.specs.Parameters.{value_of};
 
 use ch_base::Text;
 use ch_config::Config;
-use ch_requests::{MAX_DIFFERENCE, Request, Route};
+use ch_requests::{MAX_DIFFERENCE, Request};
 use ch_sig::{md5_hex, request_sig};
 
 /// The version of the signatures.
@@ -92,27 +91,13 @@ fn is_signed(config: &Config, request: &Request) -> bool
 {
     let signature = request_sig(
         config.secret.as_str().as_bytes(),
-        method_of(&request.route),
+        request.route.method(),
         request.path.as_str(),
         &request.params,
     );
     match request.params.get("auth_signature") {
         Some(value) => is_same(value.as_str().as_bytes(), &signature),
         None => false,
-    }
-}
-
-/// The method of the route.
-fn method_of(route: &Route) -> &'static str
-    ensures { result.now ≡ method_of route.now }
-{
-    match route {
-        Route::Events => "POST",
-        Route::BatchEvents => "POST",
-        Route::Channels => "GET",
-        Route::Channel(_) => "GET",
-        Route::ChannelUsers(_) => "GET",
-        Route::Terminate(_) => "POST",
     }
 }
 

@@ -6,8 +6,8 @@ ghost use Rattle.ch_requests.specs.Fields.{is_comma};
 ghost use Rattle.ch_requests.specs.Plans.{info_has, wants_users, wants_subs, wants_cache, wanted_of, has_info, counted};
 ghost use Rattle.ch_api.specs.Telling.{counted_in};
 
-use crate::names::{is_presence, is_user_channel};
 use ch_base::{Memory, Text};
+use ch_names::{is_presence, is_user_channel};
 use ch_requests::{Counted, CountedList, Trigger, Wanted};
 use std::alloc::Global;
 

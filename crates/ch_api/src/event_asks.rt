@@ -4,10 +4,9 @@ ghost use Rattle.std.specs.Option.{option_copied};
 ghost use Rattle.ch_config.specs.Config.{IsConfig};
 ghost use Rattle.ch_requests.specs.Plans.{here_of, excepted, sends_to, publishes_on, event_ask, event_asks};
 
-use crate::names::channel_user;
 use ch_base::{ChanCall, Memory, Text, UserCall};
 use ch_config::Config;
-use ch_names::{SocketId, shard_of, socket_number};
+use ch_names::{SocketId, shard_of, socket_number, user_channel};
 use ch_protocol::{Ask, AskList};
 use ch_requests::Trigger;
 use std::alloc::Global;
@@ -61,7 +60,7 @@ fn event_ask(
     requires { IsConfig config.now }
     ensures { IfOk result (λ ask. ask ≡ event_ask config.now start now trigger.now channel.now) }
 {
-    match channel_user(channel.as_str()) {
+    match user_channel(channel.as_str()) {
         Some(id) => send_to(alloc, config, trigger, id, now),
         None => publish_on(alloc, config, start, trigger, channel, now),
     }

@@ -13,7 +13,6 @@ mod events;
 mod finishing;
 mod json_texts;
 mod lookups;
-mod names;
 mod planning;
 mod refusals;
 mod reply_text;

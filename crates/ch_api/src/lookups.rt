@@ -1,22 +1,25 @@
 //! What is done with an authorized request that asks for channels or users, or closes a user's connections (Pusher Channels
 //! documentation, HTTP API, "GET channels", "GET channel", "GET users" and "POST terminate user connections").
-ghost use Rattle.std.specs.Prelude.{◌≡◌, ◌∷◌, [], map, IfOk, ℕ};
+ghost use Rattle.std.specs.Prelude.{◌≡◌, ◌∷◌, [], codes, map, IfOk, ℕ};
 ghost use Rattle.std.specs.List.{range_with_len};
 ghost use Rattle.std.specs.Option.{option_copied};
 ghost use Rattle.ch_config.specs.Config.{IsConfig};
+ghost use Rattle.ch_history.specs.ChannelName.{begins};
 ghost use Rattle.ch_history.specs.Placement.{shard_of};
 ghost use Rattle.ch_protocol.specs.declared.ask.Ask.TheVariants.{Chan, User};
 ghost use Rattle.ch_requests.specs.Plans.{asks_for, lists_channels, looks_at, lists_users, terminates, text_or_empty};
 
 use crate::counts::{wanted_of, wants_cache, wants_users};
-use crate::names::{begins_as_presence, is_cache, is_good_name, is_presence, is_user_id};
 use crate::refusals::refused;
 use ch_base::{ChanCall, Memory, Text, UserCall};
 use ch_config::Config;
-use ch_names::shard_of;
+use ch_names::{is_cache, is_good_name, is_presence, is_user_id, shard_of};
 use ch_protocol::{Ask, AskList};
 use ch_requests::{Plan, Planned, ReplyForm, Wanted};
 use std::alloc::Global;
+
+/// What the names of all presence channels begin with, those that keep their latest event among them.
+const PRESENCE_PREFIX: &[u8] = b"presence-";
 
 /// The channels with a prefix, of each channel shard. Users are counted where all of them have members.
 pub(crate) fn list_channels(
@@ -36,6 +39,13 @@ pub(crate) fn list_channels(
         asks: names_asks(alloc, config.chan_shards, prefix)?,
         form: ReplyForm::Channels(Wanted { users, subs: false }),
     }))
+}
+
+/// Whether the text begins as the names of presence channels do.
+fn begins_as_presence(text: &str) -> bool
+    ensures { result ≡ begins (codes "presence-") text.now }
+{
+    text.as_bytes().starts_with(PRESENCE_PREFIX)
 }
 
 fn text_or_empty(text: Option<&Text>) -> &str

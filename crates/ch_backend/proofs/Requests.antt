@@ -24,7 +24,7 @@ use Rattle.ch_requests.specs.Replies.{reply_to}
 use Rattle.ch_requests.specs.declared.plan.Planned.{Planned}
 use Rattle.ch_requests.specs.declared.plan.Planned.TheVariants.{Answer, Ask as AskPlan}
 use Rattle.ch_requests.specs.declared.reply.Reply.{Reply}
-use Rattle.ch_transcript.specs.Printing.{start_second}
+use Rattle.ch_transcript.specs.declared.start.TheConstants.{START_SECOND}
 
 -- of what holds where there was memory
 pub on_ok : {T A B : Type 0} (r : Result T Memory) → OnOk r A → (A → B) → OnOk r B
@@ -91,7 +91,7 @@ written_as (AskPlan plan) asked reply shards desk old new asks is came lists tex
 
 -- the request was answered at the desk of a caller that is alone
 pub answered_alone : CallsAlone → (config : Config) (at : ℕ) (q : Request) (shards : Shards) (reply : Reply) (old_desk desk : DeskView) (old new : List ℕ)
-    → ((asked : List Asked) × Makes asked old_desk desk × IsAnswer (record { config = config; start = start_second; now = at }) q asked (Ok reply))
+    → ((asked : List Asked) × Makes asked old_desk desk × IsAnswer (record { config = config; start = START_SECOND; now = at }) q asked (Ok reply))
     → new ≡ old ++ reply_line reply → IsAt old_desk shards → IsAlone desk → Answers config at q shards desk old new
 answered_alone law config at q shards reply old_desk desk old new (asked, makes, come) text lists alone = elim come [
   | inl a ↦
@@ -99,7 +99,7 @@ answered_alone law config at q shards reply old_desk desk old new (asked, makes,
       record {
         events = a.0;
         reads = a.1;
-        writes = written_as (planned config start_second q at a.0) asked reply shards desk old new a.2.0 a.2.2 alone_come.came alone_come.lists text;
+        writes = written_as (planned config START_SECOND q at a.0) asked reply shards desk old new a.2.0 a.2.2 alone_come.came alone_come.lists text;
       }
   | inr b ↦ absurd b.1
 ]

@@ -16,7 +16,7 @@ use Rattle.ch_requests.specs.declared.request.Look.{Look}
 use Rattle.ch_requests.specs.declared.request.Look.TheVariants.{Ready}
 use Rattle.ch_requests.specs.declared.request.Request.{Request}
 use Rattle.ch_requests.specs.declared.trigger.Trigger.{Trigger}
-use Rattle.ch_transcript.specs.Printing.{start_second}
+use Rattle.ch_transcript.specs.declared.start.TheConstants.{START_SECOND}
 use Rattle.ch_protocol.specs.Shards.{Shards}
 use Rattle.ch_transcript.specs.Exchanges.{Exchange, Comes, exchanges, answers}
 
@@ -41,7 +41,7 @@ pub record Writes (desk : DeskView) (old new : List ℕ) (x : Exchange) : Type 0
 pub record Answers (config : Config) (at : ℕ) (q : Request) (shards : Shards) (desk : DeskView) (old new : List ℕ) : Type 0 where
   pub events : Option (List Trigger)
   pub reads : MatchBool (is_authorized config q at) (ReadsBody q.route q.body events) (Unit {0})
-  pub writes : Writes desk old new (answers shards (planned config start_second q at events))
+  pub writes : Writes desk old new (answers shards (planned config START_SECOND q at events))
 
 -- The caller's own calls are those of the request that the bytes are, in order, up to one that found no memory. There is none
 -- where they are no whole request, or there was no memory to read them.
@@ -49,4 +49,4 @@ pub record MakesCalls (config : Config) (at : ℕ) (bytes : List ℕ) (old new :
   pub asked : List Asked
   pub makes : Makes asked old new
   pub are : (asked ≡ []) ⊎ ((q : Request) × (result : Result Reply Memory) × IsVerdict config.app_id bytes false (Ready q)
-      × IsAnswer (record { config = config; start = start_second; now = at }) q asked result)
+      × IsAnswer (record { config = config; start = START_SECOND; now = at }) q asked result)

@@ -10,7 +10,7 @@ ghost use Rattle.ch_protocol.specs.Asks.{Asked};
 ghost use Rattle.ch_protocol.specs.Shards.{Shards};
 ghost use Rattle.ch_requests.specs.Verdict.{IsVerdict};
 ghost use Rattle.ch_requests.specs.declared.reply.Reply.{Reply};
-ghost use Rattle.ch_transcript.specs.Printing.{start_second};
+ghost use Rattle.ch_transcript.specs.declared.start.TheConstants.{START_SECOND};
 ghost use Rattle.ch_backend.specs.Exchanges.{IsExchange, Does, Answers, MakesCalls};
 
 use crate::replying::{put_need, put_refusal, put_reply, put_shake};
@@ -101,7 +101,7 @@ fn answer<R, D: Desk<R>>(
         OnOk result (Answers config.now at request.now shards (D.view desk.new) out.old.items out.new.items) }
     ensures desk { IsDeskOf config.now (D.view desk.new) }
     ensures calls { (asked : List Asked) × (reply : Result Reply Memory) × Makes asked (D.view desk.old) (D.view desk.new)
-        × IsAnswer (record { config = config.now; start = start_second; now = at }) request.now asked reply }
+        × IsAnswer (record { config = config.now; start = START_SECOND; now = at }) request.now asked reply }
     ensures output { OnErr result (out.new.items ≡ out.old.items) }
 {
     calls_alone();

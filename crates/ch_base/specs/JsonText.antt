@@ -2,6 +2,7 @@
 -- Each rule relates the text where a part begins to the text after it.
 use Rattle.std.specs.Char.{digit_value, encode_utf8}
 use Rattle.std.specs.Prelude.{flat_map, cond, ◌*◌, ◌-◌, ◌≡◌, ℕ, suc, zero, ◌+◌, List, [], ◌∷◌, ◌++◌, length, Bool, true, not, ◌&&◌, ◌||◌, ◌==◌, nat_le}
+use Rattle.ch_base.specs.declared.limits.TheConstants.{MAX_DEPTH}
 use Rattle.ch_base.specs.Grammar.{Rule, Byte, One, Word, ◌then◌, ◌or◌, Maybe, Many}
 use Rattle.ch_base.specs.JsonTree.{Span, Plain, null, no, yes, number, string, Tree, plain, array, object, Items, no_items, item, Members, no_members, member}
 
@@ -97,8 +98,8 @@ String t r = (cs : List Char) × ((m : List ℕ) × (t ≡ 34 ∷ m) × Chars cs
 -- ---- values (sections 3 to 5)
 
 -- The part from t to r of a text of n bytes stands here.
-abbrev pub Stands : ℕ → Span → Rule
-Stands n s t r = (s.from + length t ≡ n) × (s.to + length r ≡ n)
+abbrev pub IsSpanOf : ℕ → Span → Rule
+IsSpanOf n s t r = (s.from + length t ≡ n) × (s.to + length r ≡ n)
 
 abbrev pub PlainValue : Plain → Rule
 PlainValue null = Word (110 ∷ 117 ∷ 108 ∷ 108 ∷ [])
@@ -110,11 +111,11 @@ PlainValue string = String
 abbrev mutual
   -- a value of a text of n bytes, with room for so many more open brackets
   pub Value : ℕ → ℕ → Tree → Rule
-  Value n room (plain p s) t r = Stands n s t r × PlainValue p t r
+  Value n room (plain p s) t r = IsSpanOf n s t r × PlainValue p t r
   Value n zero (array vs s) t r = ⊥
-  Value n (suc room) (array vs s) t r = Stands n s t r × ((m : List ℕ) × (t ≡ 91 ∷ m) × Items_ n room vs m r)
+  Value n (suc room) (array vs s) t r = IsSpanOf n s t r × ((m : List ℕ) × (t ≡ 91 ∷ m) × Items_ n room vs m r)
   Value n zero (object ms s) t r = ⊥
-  Value n (suc room) (object ms s) t r = Stands n s t r × ((m : List ℕ) × (t ≡ 123 ∷ m) × Members_ n room ms m r)
+  Value n (suc room) (object ms s) t r = IsSpanOf n s t r × ((m : List ℕ) × (t ≡ 123 ∷ m) × Members_ n room ms m r)
 
   -- the values of an array, with the closing bracket
   pub Items_ : ℕ → ℕ → Items → Rule
@@ -130,23 +131,20 @@ abbrev mutual
   pub Members_ : ℕ → ℕ → Members → Rule
   Members_ n room no_members t r = (Blanks then Byte 125) t r
   Members_ n room (member key v ms) t r =
-      (m : List ℕ) × (k : List ℕ) × (j : List ℕ) × (i : List ℕ) × Blanks t m × (Stands n key m k × String m k) × (Blanks then Byte 58 then Blanks) k j × Value n room v j i × MoreMembers n room ms i r
+      (m : List ℕ) × (k : List ℕ) × (j : List ℕ) × (i : List ℕ) × Blanks t m × (IsSpanOf n key m k × String m k) × (Blanks then Byte 58 then Blanks) k j × Value n room v j i × MoreMembers n room ms i r
 
   pub MoreMembers : ℕ → ℕ → Members → Rule
   MoreMembers n room no_members t r = (Blanks then Byte 125) t r
   MoreMembers n room (member key v ms) t r =
       (m : List ℕ) × (k : List ℕ) × (j : List ℕ) × (i : List ℕ)
-      × (Blanks then Byte 44 then Blanks) t m × (Stands n key m k × String m k) × (Blanks then Byte 58 then Blanks) k j × Value n room v j i × MoreMembers n room ms i r
+      × (Blanks then Byte 44 then Blanks) t m × (IsSpanOf n key m k × String m k) × (Blanks then Byte 58 then Blanks) k j × Value n room v j i × MoreMembers n room ms i r
 
 -- a text with at most `limit` open brackets spells this tree: one value with blanks round it
 abbrev pub SpellsWithin : ℕ → List ℕ → Tree → Type 0
 SpellsWithin limit text v = (m : List ℕ) × (k : List ℕ) × Blanks text m × Value (length text) limit v m k × Blanks k []
 
-abbrev pub max_depth : ℕ
-max_depth = 64
-
 abbrev pub Spells : List ℕ → Tree → Type 0
-Spells text v = SpellsWithin max_depth text v
+Spells text v = SpellsWithin MAX_DEPTH text v
 
 -- ---- the unescaped bytes of a string (section 7)
 
@@ -157,15 +155,15 @@ abbrev pub short_value : ℕ → ℕ
 short_value x = cond (x == 98) 8 (cond (x == 102) 12 (cond (x == 110) 10 (cond (x == 114) 13 (cond (x == 116) 9 x))))
 
 -- what a character of a string stands for
-abbrev pub meaning : Char → List ℕ
-meaning (byte x) = x ∷ []
-meaning (short x) = short_value x ∷ []
-meaning (unit a b c d) = encode_utf8 (hex_value a b c d)
-meaning (pair a b c d e f g h) = encode_utf8 (0x10000 + (hex_value a b c d - 0xd800) * 1024 + (hex_value e f g h - 0xdc00))
+abbrev pub char_bytes : Char → List ℕ
+char_bytes (byte x) = x ∷ []
+char_bytes (short x) = short_value x ∷ []
+char_bytes (unit a b c d) = encode_utf8 (hex_value a b c d)
+char_bytes (pair a b c d e f g h) = encode_utf8 (0x10000 + (hex_value a b c d - 0xd800) * 1024 + (hex_value e f g h - 0xdc00))
 
 -- the bytes, quotes and all, are a string with this text
 abbrev pub Unescapes : List ℕ → List ℕ → Type 0
-Unescapes bytes text = (cs : List Char) × (t : List ℕ) × (bytes ≡ 34 ∷ t) × Chars cs t [] × (text ≡ flat_map meaning cs)
+Unescapes bytes text = (cs : List Char) × (t : List ℕ) × (bytes ≡ 34 ∷ t) × Chars cs t [] × (text ≡ flat_map char_bytes cs)
 
 -- ---- texts by their values
 

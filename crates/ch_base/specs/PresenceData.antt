@@ -21,9 +21,9 @@ roster rows =
     ++ codes "},\"count\":" ++ decimal (length rows) ++ codes "}}"
 
 -- a member that is new
-abbrev pub arrival : Member → List ℕ
-arrival member = codes "{\"user_id\":" ++ quoted member.user_id ++ codes ",\"user_info\":" ++ member.info ++ codes "}"
+abbrev pub member_added_data : Member → List ℕ
+member_added_data member = codes "{\"user_id\":" ++ quoted member.user_id ++ codes ",\"user_info\":" ++ member.info ++ codes "}"
 
 -- a member that is gone, by its user id
-abbrev pub departure : List ℕ → List ℕ
-departure user_id = codes "{\"user_id\":" ++ quoted user_id ++ codes "}"
+abbrev pub member_removed_data : List ℕ → List ℕ
+member_removed_data user_id = codes "{\"user_id\":" ++ quoted user_id ++ codes "}"

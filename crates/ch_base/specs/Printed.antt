@@ -8,18 +8,19 @@ use Rattle.ch_base.specs.declared.frame.Frame.TheVariants.{Opened, Error, Ping, 
 use Rattle.ch_base.specs.Escape.{quoted}
 use Rattle.ch_base.specs.ErrorTexts.{error_text}
 use Rattle.ch_base.specs.Events.{connection_event, channel_event, member_event, bare_event}
-use Rattle.ch_base.specs.PresenceData.{roster, arrival, departure}
+use Rattle.ch_base.specs.PresenceData.{roster, member_added_data, member_removed_data}
+use Rattle.ch_base.specs.declared.error_codes.TheConstants.{UNAUTHORIZED}
 
 -- ---- on the connection ("Connection events", "Error codes", "Ping and pong messages")
 
 -- what a connection is told first: its socket id, which is the second of the server's start and the socket's number,
 -- and the seconds of silence after which a ping is due
-abbrev pub greeting : ℕ → ℕ → List ℕ
-greeting number start = codes "{\"socket_id\":\"" ++ decimal start ++ codes "." ++ decimal number ++ codes "\",\"activity_timeout\":120}"
+abbrev pub established_data : ℕ → ℕ → List ℕ
+established_data number start = codes "{\"socket_id\":\"" ++ decimal start ++ codes "." ++ decimal number ++ codes "\",\"activity_timeout\":120}"
 
 -- the first event of a connection ("Connection events", `pusher:connection_established`)
-abbrev pub opened : ℕ → ℕ → List ℕ
-opened number start = connection_event (codes "pusher:connection_established") (quoted (greeting number start))
+abbrev pub connection_established : ℕ → ℕ → List ℕ
+connection_established number start = connection_event (codes "pusher:connection_established") (quoted (established_data number start))
 
 -- an error, in words and by its code ("Connection events", `pusher:error`)
 abbrev pub error : ℕ → List ℕ
@@ -38,16 +39,16 @@ pong = connection_event (codes "pusher:pong") (codes "{}")
 -- ---- on a channel ("Subscription events", "Presence channel events", "Channel events", "Cache channels")
 
 -- the answer to a subscribe; what it tells is a JSON text ("Subscription events")
-abbrev pub subscribed : List ℕ → List ℕ → List ℕ
-subscribed channel body = channel_event (codes "pusher_internal:subscription_succeeded") channel (quoted body)
+abbrev pub subscription_succeeded : List ℕ → List ℕ → List ℕ
+subscription_succeeded channel body = channel_event (codes "pusher_internal:subscription_succeeded") channel (quoted body)
 
 -- a member that is new ("Presence channel events", `pusher_internal:member_added`)
-abbrev pub added : List ℕ → Member → List ℕ
-added channel member = channel_event (codes "pusher_internal:member_added") channel (quoted (arrival member))
+abbrev pub member_added : List ℕ → Member → List ℕ
+member_added channel member = channel_event (codes "pusher_internal:member_added") channel (quoted (member_added_data member))
 
 -- a member that is gone ("Presence channel events", `pusher_internal:member_removed`)
-abbrev pub removed : List ℕ → List ℕ → List ℕ
-removed channel user_id = channel_event (codes "pusher_internal:member_removed") channel (quoted (departure user_id))
+abbrev pub member_removed : List ℕ → List ℕ → List ℕ
+member_removed channel user_id = channel_event (codes "pusher_internal:member_removed") channel (quoted (member_removed_data user_id))
 
 -- an event, with the user id of the member that it is from where it is known; its body stands as it is spelled
 -- ("Channel events", "Client events")
@@ -56,45 +57,45 @@ event_on channel event body None = channel_event event channel body
 event_on channel event body (Some user_id) = member_event event channel body user_id
 
 -- a cache channel has no latest event ("Cache channels", `pusher:cache_miss`)
-abbrev pub miss : List ℕ → List ℕ
-miss channel = bare_event (codes "pusher:cache_miss") channel
+abbrev pub cache_miss : List ℕ → List ℕ
+cache_miss channel = bare_event (codes "pusher:cache_miss") channel
 
 -- ---- of users ("User authentication", "Watchlist events")
 
 -- the answer to a sign-in: the user's data, as the socket sent it ("User authentication", `pusher:signin_success`)
-abbrev pub signed_in : List ℕ → List ℕ
-signed_in user_data = connection_event (codes "pusher:signin_success") (codes "{\"user_data\":" ++ quoted user_data ++ codes "}")
+abbrev pub signin_success : List ℕ → List ℕ
+signin_success user_data = connection_event (codes "pusher:signin_success") (codes "{\"user_data\":" ++ quoted user_data ++ codes "}")
 
 -- whether a user is there, in a word
 abbrev pub presence_word : Bool → List ℕ
 presence_word online = if online then codes "online" else codes "offline"
 
 -- that a watched user came or is gone
-abbrev pub change : Bool → List ℕ → List ℕ
-change online user_id =
+abbrev pub watchlist_change : Bool → List ℕ → List ℕ
+watchlist_change online user_id =
     codes "{\"events\":[{\"name\":" ++ quoted (presence_word online) ++ codes ",\"user_ids\":[" ++ quoted user_id ++ codes "]}]}"
 
 -- a socket that watches the user is told so ("Watchlist events")
-abbrev pub watch : Bool → List ℕ → List ℕ
-watch online user_id = connection_event (codes "pusher_internal:watchlist_events") (change online user_id)
+abbrev pub watchlist_events : Bool → List ℕ → List ℕ
+watchlist_events online user_id = connection_event (codes "pusher_internal:watchlist_events") (watchlist_change online user_id)
 
 -- ---- all
 
 -- the text of a frame, of a server that started at this second
 abbrev pub printed : Frame → ℕ → List ℕ
-printed (Opened number) start = opened number start
+printed (Opened number) start = connection_established number start
 printed (Error code) start = error code
 printed Ping start = ping
 printed Pong start = pong
-printed (Succeeded channel) start = subscribed channel (codes "{}")
-printed (Present channel rows) start = subscribed channel (roster rows)
-printed (Added channel member) start = added channel member
-printed (Removed channel user_id) start = removed channel user_id
+printed (Succeeded channel) start = subscription_succeeded channel (codes "{}")
+printed (Present channel rows) start = subscription_succeeded channel (roster rows)
+printed (Added channel member) start = member_added channel member
+printed (Removed channel user_id) start = member_removed channel user_id
 printed (Event channel event body user_id) start = event_on channel event body user_id
-printed (Miss channel) start = miss channel
-printed (SignedIn user_data) start = signed_in user_data
-printed (Watch online user_id) start = watch online user_id
-printed Kill start = error 4009
+printed (Miss channel) start = cache_miss channel
+printed (SignedIn user_data) start = signin_success user_data
+printed (Watch online user_id) start = watchlist_events online user_id
+printed Kill start = error UNAUTHORIZED
 
 -- whether the frame is the first of a connection, whose text alone depends on the server's start
 abbrev pub is_opened : Frame → Bool

@@ -8,9 +8,11 @@
 
 mod channel;
 mod entry;
+mod error_codes;
 mod frame;
 mod frame_list;
 mod items;
+mod limits;
 mod memory;
 mod printed;
 mod served;
@@ -21,9 +23,17 @@ mod webhook;
 
 pub use channel::{CacheRow, ChanAnswer, ChanCall, Member, NameRow};
 pub use entry::Entry;
+pub use error_codes::{
+    ALREADY_SIGNED_IN, ALREADY_SUBSCRIBED, CHANNEL_FULL, CLIENT_EVENT_REFUSED,
+    INVALID_CHANNEL_DATA, INVALID_CHANNEL_NAME, INVALID_SIGNATURE, INVALID_USER_DATA,
+    INVALID_VERSION, MALFORMED_MESSAGE, MESSAGE_TOO_LONG, NO_PONG, NO_VERSION, NOT_SUBSCRIBED,
+    OUT_OF_MEMORY, OVER_CAPACITY, RATE_LIMIT_REACHED, RECONNECT, TOO_MANY_SUBSCRIPTIONS,
+    UNAUTHORIZED, UNKNOWN_APP, UNKNOWN_EVENT, UNKNOWN_PATH, UNSUPPORTED_VERSION,
+};
 pub use frame::{Frame, FrameFor};
 pub use frame_list::FrameList;
 pub use items::{Bytes, HookList, Items, MemberList, NameRows, TextList};
+pub use limits::{LATEST_MOMENT, MAX_DEPTH};
 pub use memory::Memory;
 pub use printed::Printed;
 pub use served::Served;

@@ -11,7 +11,7 @@ use Rattle.ch_base.specs.declared.webhook.Hook.{Hook}
 use Rattle.ch_history.specs.Entries.{ChanEntry, ChanHistory}
 use Rattle.ch_history.specs.Laws.{occupancy}
 use Rattle.ch_history.specs.Placement.{BelongsTo, IsLegalAt, shard_of}
-use Rattle.ch_history.specs.Subscriptions.{is_joined, on_channel, opened, subs}
+use Rattle.ch_history.specs.Subscriptions.{is_joined, on_channel, opened_by, subs}
 use Rattle.ch_history.specs.Clock.{clock, clock_with}
 use Rattle.ch_history.specs.Held.{held, hooks}
 use Rattle.ch_history.specs.Pending.{hook_list}
@@ -42,7 +42,7 @@ elsewhere j n c d away here =
     ]) refl
 
 nothing_opened : (w : ℕ) (call : ChanCall) (a : ChanAnswer) (j n : ℕ) (c : List ℕ) → shard_of c n ≢ j → BelongsTo (j, n) call
-    → on_channel (option_to_list (opened (entry w call a))) c ≡ []
+    → on_channel (option_to_list (opened_by (entry w call a))) c ≡ []
 nothing_opened w (Join socket d m at) a j n c away here =
     elim (is_joined a) as (λ b. on_channel (option_to_list (cond b (Some (record { channel = d; socket = socket; owner = w; member = m })) None)) c ≡ []) [
       | true ↦ ap (λ b. cond b (record { channel = d; socket = socket; owner = w; member = m } ∷ []) []) (elsewhere j n c d away here)

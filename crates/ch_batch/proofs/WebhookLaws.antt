@@ -6,7 +6,8 @@ use Rattle.std.proofs.lemmas.List.Elements.{All-head, All-tail}
 use Rattle.ch_base.specs.declared.webhook.Hook.{Hook}
 use Rattle.ch_history.specs.Entries.{ChanEntry, ChanHistory}
 use Rattle.ch_history.specs.Laws.{Goes, counts_occupied}
-use Rattle.ch_history.specs.Placement.{fnv_from, fnv_offset, shard_of}
+use Rattle.ch_history.specs.Placement.{fnv_from, shard_of}
+use Rattle.ch_history.specs.declared.limits.TheConstants.{FNV_OFFSET}
 use Rattle.ch_history.specs.Pending.{hook_list, is_take_hooks, since_take}
 use Rattle.ch_history.proofs.Occupancy.{occupancy_law}
 use Rattle.ch_protocol.specs.Asks.{Asked, asks_of}
@@ -128,7 +129,7 @@ webhooks_law sender asked deeds old new now some collects legal alone =
       shards = shards;
       occupancy = λ c.
           let k : ℕ = shard_of c n in
-          let here : k < n = mod-lt (fnv_from fnv_offset c) (subst (λ m. 1 ≤ m) (sym same) some) in
+          let here : k < n = mod-lt (fnv_from FNV_OFFSET c) (subst (λ m. 1 ≤ m) (sym same) some) in
           let h : ChanHistory = new.chans k in
           let others : IsAlone c k n asked = λ j below other.
           first_nothing (marks c (taken_from j asked)) (marks c (since_take (new.chans j)))

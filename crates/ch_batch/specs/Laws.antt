@@ -27,7 +27,7 @@ use Rattle.ch_batch.specs.Steps.{after_step}
 abbrev pub events_in_all : List Content → List Hook
 events_in_all contents = flat_map (λ c. c.events) contents
 
--- a batch has 1 to 50 events
+-- a batch has 1 to `BATCH_EVENTS` events
 pub record IsFilled (c : Content) : Type 0 where
   pub some : 1 ≤ length c.events
   pub few : length c.events ≤ BATCH_EVENTS

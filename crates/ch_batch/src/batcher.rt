@@ -83,7 +83,7 @@ impl Batcher {
         self.lists.push_back_reserved(list);
     }
 
-    /// Cuts all accepted events into batches of 50, the last one with fewer, and answers how many batches that makes.
+    /// Cuts all accepted events into batches of `BATCH_EVENTS`, the last one with fewer, and answers how many batches that makes.
     /// `now` is in milliseconds. Where a batch would have a number above 2^62, none is made and the events stay.
     pub fn cut(&mut self, now: u64) -> Result<u64, Memory>
         ensures count { IfOk result (λ count. count ≡ length (cut_now self.old.state now)) }

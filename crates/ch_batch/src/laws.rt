@@ -1,7 +1,7 @@
 ghost use Rattle.ch_batch.specs.Laws.{BatchesLaw, CollectsChain, WebhooksLaw};
 
 /// Whatever is done to a batcher, each event that it accepts is in one batch or waits to be cut, in order; batches
-/// are numbered from 1 and have 1 to 50 events; and each is gone or waits, in the order of their numbers.
+/// are numbered from 1 and have 1 to `BATCH_EVENTS` events; and each is gone or waits, in the order of their numbers.
 pub fn each_event_is_in_one_batch()
     ensures { BatchesLaw }
 {}

@@ -1,5 +1,5 @@
 //! Webhook batches (Pusher Channels documentation, Webhooks): the events that the channel shards make are
-//! gathered, cut into batches of at most 50, signed, and posted one after another.
+//! gathered, cut into batches of at most `BATCH_EVENTS`, signed, and posted one after another.
 //!
 //! Contracts see a [`Batcher`] as what waits: the events that were accepted and not cut yet, and the batches
 //! that were made and neither sent nor given up, the lowest number first. A batch's body is made once, with the

@@ -7,7 +7,7 @@ use Rattle.ch_history.specs.Cache.{lasting}
 use Rattle.ch_history.proofs.Lists.{both}
 use Rattle.ch_history.proofs.Texts.{same_text, other_text}
 use Rattle.ch_cache.specs.declared.latest_event.LatestEvent.{LatestEvent}
-use Rattle.ch_cache.specs.Latest.{is_of, lasts, latest_in}
+use Rattle.ch_cache.specs.Latest.{is_event_on, lasts, latest_in}
 
 -- What is found in a part of the events
 
@@ -40,8 +40,8 @@ later now at ends after lasts_on = grind (arith, nat_tests)
 
 pub latest_in-swept : (es : List LatestEvent) (now : ℕ) (c : List ℕ) (at : ℕ) → now ≤ at → latest_in (filter (lasts now) es) c at ≡ latest_in es c at
 latest_in-swept es now c at after =
-    ap (option_map (λ e. e.cached)) (find-within (λ e. is_of c e && lasts at e) (lasts now)
-    (λ e seen. later now at e.cached.ends after (both (is_of c e) (lasts at e) seen).1) es)
+    ap (option_map (λ e. e.cached)) (find-within (λ e. is_event_on c e && lasts at e) (lasts now)
+    (λ e seen. later now at e.cached.ends after (both (is_event_on c e) (lasts at e) seen).1) es)
 
 -- A put
 
@@ -54,24 +54,24 @@ itself at y true = refl
 itself at y false = refl
 
 -- an event of another channel is left where those of `channel` are removed
-stays : (channel c : List ℕ) (e : LatestEvent) → bytes_eq channel c ≡ false → is_of c e ≡ true → not (is_of channel e) ≡ true
+stays : (channel c : List ℕ) (e : LatestEvent) → bytes_eq channel c ≡ false → is_event_on c e ≡ true → not (is_event_on channel e) ≡ true
 stays channel c e differs own =
     ap (λ d. not (bytes_eq d channel)) (same_text e.channel c own) ∙ ap not (other_text channel c differs)
 
-goes : (channel c : List ℕ) (at : ℕ) (e : LatestEvent) → bytes_eq channel c ≡ true → not (is_of channel e) ≡ true → (is_of c e && lasts at e) ≡ false
-goes channel c at e same other = ap (λ b. b && lasts at e) (ap (λ d. bytes_eq e.channel d) (sym (same_text channel c same)) ∙ negated (is_of channel e) other)
+goes : (channel c : List ℕ) (at : ℕ) (e : LatestEvent) → bytes_eq channel c ≡ true → not (is_event_on channel e) ≡ true → (is_event_on c e && lasts at e) ≡ false
+goes channel c at e same other = ap (λ b. b && lasts at e) (ap (λ d. bytes_eq e.channel d) (sym (same_text channel c same)) ∙ negated (is_event_on channel e) other)
   where
     negated : (b : Bool) → not b ≡ true → b ≡ false
     negated true is = cc
     negated false is = refl
 
 pub latest_in-put : (es : List LatestEvent) (y : LatestEvent) (channel c : List ℕ) (at : ℕ) → y.channel ≡ channel
-    → latest_in (filter (λ e. not (is_of channel e)) es ++ y ∷ []) c at ≡ cond (bytes_eq channel c) (lasting at (Some y.cached)) (latest_in es c at)
+    → latest_in (filter (λ e. not (is_event_on channel e)) es ++ y ∷ []) c at ≡ cond (bytes_eq channel c) (lasting at (Some y.cached)) (latest_in es c at)
 latest_in-put es y channel c at named =
-    let p : LatestEvent → Bool = λ e. is_of c e && lasts at e in
-    let q : LatestEvent → Bool = λ e. not (is_of channel e) in
+    let p : LatestEvent → Bool = λ e. is_event_on c e && lasts at e in
+    let q : LatestEvent → Bool = λ e. not (is_event_on channel e) in
     ap (option_map (λ e. e.cached)) (find-append p (filter q es) (y ∷ []) ∙ ap (λ d. option_or (find p (filter q es)) (cond (bytes_eq d c && lasts at y) (Some y) None)) named)
     ∙ (elim (bytes_eq channel c) as (λ b. bytes_eq channel c ≡ b → option_map (λ e. e.cached) (option_or (find p (filter q es)) (cond (b && lasts at y) (Some y) None)) ≡ cond b (lasting at (Some y.cached)) (latest_in es c at)) [
       | true ↦ (λ same. ap (λ o. option_map (λ e. e.cached) (option_or o (cond (lasts at y) (Some y) None))) (find-without p q (λ e other. goes channel c at e same other) es) ∙ itself at y (lasts at y))
-      | false ↦ (λ differs. ap (option_map (λ e. e.cached)) (or_none (find p (filter q es)) ∙ find-within p q (λ e seen. stays channel c e differs (both (is_of c e) (lasts at e) seen).0) es))
+      | false ↦ (λ differs. ap (option_map (λ e. e.cached)) (or_none (find p (filter q es)) ∙ find-within p q (λ e seen. stays channel c e differs (both (is_event_on c e) (lasts at e) seen).0) es))
     ]) refl

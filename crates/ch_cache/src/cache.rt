@@ -3,7 +3,7 @@ ghost use Rattle.std.specs.Option.{option_copied};
 ghost use Rattle.ch_history.specs.Cache.{lasting};
 ghost use Rattle.ch_history.specs.Limits.{IsMoment};
 ghost use Rattle.ch_history.specs.declared.limits.TheConstants.{CACHED_FOR};
-ghost use Rattle.ch_cache.specs.Latest.{is_of, lasts, found, latest_in};
+ghost use Rattle.ch_cache.specs.Latest.{is_event_on, lasts, found, latest_in};
 
 use crate::latest_event::LatestEvent;
 use ch_base::{Memory, Text};
@@ -90,7 +90,7 @@ fn find<'a>(events: &'a [LatestEvent], channel: &Text, now: u64) -> Option<&'a L
 
 /// Removes the channel's event.
 fn forget(events: &mut Vec<LatestEvent>, channel: &Text)
-    ensures items { events.new.items ≡ filter (λ e. not (is_of channel.now e)) events.old.items }
+    ensures items { events.new.items ≡ filter (λ e. not (is_event_on channel.now e)) events.old.items }
     ensures len { vec_len events.new ≤ vec_len events.old }
     ensures capacity { vec_capacity events.new ≡ vec_capacity events.old }
 {

@@ -18,8 +18,8 @@ use Rattle.ch_base.specs.contracts.frame.Frame as Frame
 use Rattle.ch_rate.specs.contracts.activity.Activity as Activity
 use Rattle.ch_rate.specs.contracts.rate.Rate as Rate
 use Rattle.ch_rate.specs.contracts.rate.Rate.TheInside as InsideRate
-use Rattle.ch_session.specs.contracts.tally.Tally as Tally
-use Rattle.ch_session.specs.contracts.tally.Tally.TheInside as InsideTally
+use Rattle.ch_session.specs.contracts.account.Account as Account
+use Rattle.ch_session.specs.contracts.account.Account.TheInside as InsideAccount
 use Rattle.ch_session.specs.contracts.session.Session as Session
 use Rattle.ch_session.specs.contracts.session.Session.TheInside as InsideSession
 use Rattle.ch_live.specs.contracts.live.Live as Live
@@ -63,14 +63,14 @@ rate_send =
     let inside : IsSend InsideRate.the_row = search (sendable, crosses) depth 24 in
     view_send InsideRate.the_row _ _ _ _ inside
 
-tally_send : IsSend Tally.the_row
-tally_send =
-    let inside : IsSend InsideTally.the_row = search (sendable, crosses, text_send, rate_send) depth 24 in
-    view_send InsideTally.the_row _ _ _ _ inside
+account_send : IsSend Account.the_row
+account_send =
+    let inside : IsSend InsideAccount.the_row = search (sendable, crosses, text_send, rate_send) depth 24 in
+    view_send InsideAccount.the_row _ _ _ _ inside
 
 session_send : IsSend Session.the_row
 session_send =
-    let inside : IsSend InsideSession.the_row = search (sendable, crosses, tally_send, activity_send) depth 24 in
+    let inside : IsSend InsideSession.the_row = search (sendable, crosses, account_send, activity_send) depth 24 in
     view_send InsideSession.the_row _ _ _ _ inside
 
 form_send : IsSend Form.the_row

@@ -9,7 +9,8 @@ use Rattle.ch_clients.proofs.Placing.{all_removed, all_replaced, at_place, one_t
 use Rattle.ch_clients.proofs.Rows.{set_ascends}
 use Rattle.ch_clients.proofs.Serving.{kept_of, part_of}
 use Rattle.ch_clients.proofs.Stepping.{step_serves}
-use Rattle.ch_clients.specs.Clients.{Client, AreAscending, MayTurn, Speech, Http, WebSocket, most_clients}
+use Rattle.ch_clients.specs.Clients.{Client, AreAscending, MayTurn, Speech, Http, WebSocket}
+use Rattle.ch_clients.specs.declared.limits.TheConstants.{MOST_CLIENTS}
 use Rattle.ch_clients.specs.Passes.{HasTurn, replaced}
 use Rattle.ch_clients.specs.Serving.{Setting, Turned, Fate, Stays, Leaves, Dropped, IsServed, IsUpgraded, client_of, leaver_of}
 use Rattle.ch_clients.specs.Steps.{Becomes, HasFate, IsFateOfEnd, IsFateOfHandshake, IsStepAt, MayFollow, MayGoOn}
@@ -87,7 +88,7 @@ pub back_ascends : (clients left : List Client) (place : ℕ) (taken made : Clie
 back_ascends clients left place taken made lt there same out ascending =
     subst AreAscending (sym (ap (λ xs. insert xs place made) out ∙ put_back clients place made lt)) (set_ascends clients place taken made there same ascending)
 
-pub room_back : (clients left : List Client) (place : ℕ) → place < length clients → left ≡ remove clients place → length clients ≤ most_clients → length left < most_clients
+pub room_back : (clients left : List Client) (place : ℕ) → place < length clients → left ≡ remove clients place → length clients ≤ MOST_CLIENTS → length left < MOST_CLIENTS
 room_back clients left place lt out room = omega (arith, ap length out, length-remove clients place lt, room, lt)
 
 -- ---- it is gone

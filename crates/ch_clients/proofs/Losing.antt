@@ -18,7 +18,7 @@ use Rattle.ch_live.specs.Peers.{IsPeerOver}
 use Rattle.ch_live.specs.declared.peer.Peer.{Peer}
 use Rattle.ch_live.specs.declared.peer.Peer.TheVariants.{Open, Refused}
 use Rattle.ch_protocol.specs.Asks.{Asked}
-use Rattle.ch_session.specs.Kept.{IsOver}
+use Rattle.ch_session.specs.Kept.{HasShardsOf}
 
 map_remove : {A B : Type 0} (f : A → B) (xs : List A) (at : ℕ) → map f (remove xs at) ≡ remove (map f xs) at
 map_remove f [] zero = refl
@@ -50,7 +50,7 @@ desk_stays config a b same is = record { chan_shards = same.chan_shards ∙ is.c
 pub loses_over : {T : Type 0} (config : Config) (now : ℕ) (asked : List Asked) (p q : Peer) (a b : DeskView) (r : Result T Memory) → Loses now asked p q a b r
     → IsPeerOver config p → IsPeerOver config q
 loses_over config now asked (Open c) (Open d) a b r (losses, same, all) over =
-    subst (λ s. IsOver s config) (sym losses.same) (record { chans = over.chans; shards = over.shards })
+    subst (λ s. HasShardsOf s config) (sym losses.same) (record { chans = over.chans; shards = over.shards })
 loses_over config now asked (Refused code) (Refused same) a b r h over = tt
 loses_over config now asked (Open c) (Refused same) a b r never over = absurd never
 loses_over config now asked (Refused code) (Open d) a b r never over = absurd never

@@ -7,7 +7,8 @@ use Rattle.std.proofs.lemmas.Option.{slice_get_within}
 use Rattle.ch_clients.proofs.Passing.{pass_begins, pass_goes_on, pass_ends, pass_falls}
 use Rattle.ch_clients.proofs.Placing.{length_replaced}
 use Rattle.ch_clients.specs.Answers.{stronger}
-use Rattle.ch_clients.specs.Clients.{Client, ClientsView, AreAscending, MayTurn, most_clients}
+use Rattle.ch_clients.specs.Clients.{Client, ClientsView, AreAscending, MayTurn}
+use Rattle.ch_clients.specs.declared.limits.TheConstants.{MOST_CLIENTS}
 use Rattle.ch_clients.specs.Passes.{HasTurn, HasPassed}
 use Rattle.ch_clients.specs.Serving.{Setting, Turned, Fate, Stays, Leaves, Dropped, IsServed, ServesEach, client_of, leaver_of, leavers}
 use Rattle.ch_clients.specs.declared.answer.WorkerTurn.{WorkerTurn}
@@ -35,11 +36,11 @@ pub record Serving (s : Setting) (old lists : Lists) (before desk : DeskView) (p
   pub left : lists.leaving ≡ old.leaving ++ leavers turns
   pub may : All (MayTurn s.config) lists.connected
   pub over : All (IsPeerOver s.config) lists.leaving
-  pub room : length lists.connected + length lists.leaving ≤ most_clients
+  pub room : length lists.connected + length lists.leaving ≤ MOST_CLIENTS
   pub shards : IsDeskOf s.config desk
 
 pub turns_begin : (s : Setting) (lists : Lists) (desk : DeskView) → All (MayTurn s.config) lists.connected → All (IsPeerOver s.config) lists.leaving
-    → length lists.connected + length lists.leaving ≤ most_clients → IsDeskOf s.config desk → Serving s lists lists desk desk 0 Idle
+    → length lists.connected + length lists.leaving ≤ MOST_CLIENTS → IsDeskOf s.config desk → Serving s lists lists desk desk 0 Idle
 turns_begin s lists desk may over room shards = record {
   turns = [];
   passed = pass_begins (IsServed s) kept_of part_of lists.connected desk;

@@ -6,6 +6,7 @@ use Rattle.std.proofs.lemmas.List.Elements.{All-cons, All-head, All-tail}
 use Rattle.ch_base.specs.declared.frame.Frame.{Frame}
 use Rattle.ch_base.specs.declared.frame.FrameFor.{FrameFor}
 use Rattle.ch_base.specs.declared.memory.Memory.{Memory}
+use Rattle.ch_clients.specs.declared.limits.TheConstants.{MOST_CLIENTS}
 use Rattle.ch_clients.specs.Clients.{Client, ClientsView, Speech, Http, WebSocket, AreSound, MaySpeak, MayTurn, handed, handed_to, has_room, placed, with_frame}
 use Rattle.ch_clients.specs.InTurn.{InTurn}
 use Rattle.ch_clients.specs.Leaving.{Left, IsLeft, LosesEach, still_leaving, still_there}
@@ -95,7 +96,7 @@ pub sound_placed : (c : ClientsView) (client : Client) (connected : List Client)
     → AreSound (record c { connected = connected })
 sound_placed c client connected is room may sound = record {
   config = sound.config;
-  room = omega (arith, ltb-true (length c.connected + length c.leaving) 256 room, ap length is, length_placed client c.connected);
+  room = omega (arith, ltb-true (length c.connected + length c.leaving) MOST_CLIENTS room, ap length is, length_placed client c.connected);
   clients = subst (All (MayTurn c.config)) (sym is) (all_placed (MayTurn c.config) client c.connected may sound.clients);
   leaving = sound.leaving;
 }

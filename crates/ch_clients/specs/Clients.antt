@@ -4,6 +4,7 @@ use Rattle.std.specs.List.{fold}
 use Rattle.std.specs.List.Sorted.{IsNonDecreasingBy}
 use Rattle.ch_base.specs.declared.frame.Frame.{Frame}
 use Rattle.ch_base.specs.declared.frame.FrameFor.{FrameFor}
+use Rattle.ch_clients.specs.declared.limits.TheConstants.{MOST_CLIENTS}
 use Rattle.ch_config.specs.Config.{IsConfig}
 use Rattle.ch_config.specs.declared.config.Config.{Config}
 use Rattle.ch_exchange.specs.Turns.{IsUnfinished}
@@ -74,10 +75,6 @@ pub record ClientsView : Type 0 where
   pub connected : List Client
   pub leaving : List Peer
 
--- so many clients there are at most, with those who leave
-abbrev pub most_clients : ℕ
-most_clients = 256
-
 -- none is there
 abbrev pub no_clients : Config → ℕ → ClientsView
 no_clients config start = record { config = config; start = start; connected = []; leaving = [] }
@@ -87,7 +84,7 @@ AreNone c = (c.connected ≡ []) × (c.leaving ≡ [])
 
 -- whether there is room for one more
 abbrev pub has_room : ClientsView → Bool
-has_room c = nat_lt (length c.connected + length c.leaving) most_clients
+has_room c = nat_lt (length c.connected + length c.leaving) MOST_CLIENTS
 
 -- ---- what holds of all clients between their turns
 
@@ -102,6 +99,6 @@ MayTurn config c = MaySpeak config c.speech
 -- the configuration is within its bounds, there is room for those who are there, and each may take its turn
 pub record AreSound (c : ClientsView) : Type 0 where
   pub config : IsConfig c.config
-  pub room : length c.connected + length c.leaving ≤ most_clients
+  pub room : length c.connected + length c.leaving ≤ MOST_CLIENTS
   pub clients : All (MayTurn c.config) c.connected
   pub leaving : All (IsPeerOver c.config) c.leaving

@@ -11,7 +11,7 @@ use Rattle.ch_exchange.specs.declared.turn.ExTurn.{ExTurn}
 use Rattle.ch_exchange.specs.declared.turn.ExTurn.TheVariants as ex
 use Rattle.ch_live.specs.Courses.{Course}
 use Rattle.ch_live.specs.Losses.{Owes}
-use Rattle.ch_live.specs.Peers.{opened}
+use Rattle.ch_live.specs.Peers.{connection_of}
 use Rattle.ch_live.specs.Turns.{IsTurn}
 use Rattle.ch_live.specs.declared.peer.Peer.{Peer}
 use Rattle.ch_live.specs.declared.peer.Peer.TheVariants.{Open, Refused}
@@ -88,7 +88,7 @@ pub record IsLiveTurn (s : Setting) (number : ℕ) (peer : Peer) (wire : WireTol
 -- who the live socket of a handshake's target is: its session is started and its first frame waits, or the target was refused
 abbrev pub IsPeerOf : Setting → ℕ → List ℕ → Peer → Type 0
 IsPeerOf s number target (Open c) =
-    (session : Kept) × (c ≡ opened session) × IsSession session s.start number [] × (session.quiet ≡ quiet_from s.now)
+    (session : Kept) × (c ≡ connection_of session) × IsSession session s.start number [] × (session.quiet ≡ quiet_from s.now)
     × (target_refusal s.config.key target ≡ None)
 IsPeerOf s number target (Refused code) = target_refusal s.config.key target ≡ Some code
 

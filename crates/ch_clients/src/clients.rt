@@ -8,8 +8,9 @@ ghost use Rattle.ch_history.specs.Limits.{IsMoment, IsSocket};
 
 use crate::answer::WorkerTurn;
 use crate::client::Client;
-use crate::connected::{Connected, MOST_CLIENTS};
+use crate::connected::Connected;
 use crate::leaving::Leaving;
+use crate::limits::MOST_CLIENTS;
 use crate::lists::Lists;
 use crate::server::Server;
 use ch_base::{Memory, Shared};
@@ -20,7 +21,7 @@ use std::alloc::Global;
 use std::marker::Model;
 
 /// The clients of a worker, with all the room that there will be: those that are connected, in ascending
-/// order of their numbers, and those who leave. A moment is a number of milliseconds, at most 10^15.
+/// order of their numbers, and those who leave. A moment is a number of milliseconds, at most `LATEST_MOMENT`.
 #[derive(Drop)]
 pub struct Clients<L: Link> {
     server: Server,
@@ -38,7 +39,7 @@ impl<L: Link> Model for Clients<L> {
 }
 
 impl<L: Link> Clients<L> {
-    /// Room for 256 clients, of which none is there, on a server that started at the second `start`.
+    /// Room for `MOST_CLIENTS` clients, of which none is there, on a server that started at the second `start`.
     pub fn new(alloc: Global, config: &Config, start: u64) -> Result<Clients<L>, Memory>
         requires { IsConfig config.now }
         ensures { IfOk result (λ c. c ≡ no_clients config.now start) }
@@ -59,7 +60,7 @@ impl<L: Link> Clients<L> {
         self.lists.connected.len() == 0 && self.lists.leaving.len() == 0
     }
 
-    /// Whether there is room for one more client: fewer than 256 are connected or leave.
+    /// Whether there is room for one more client: fewer than `MOST_CLIENTS` are connected or leave.
     pub fn has_room(&self) -> bool
         ensures { result ≡ has_room self.now }
     {

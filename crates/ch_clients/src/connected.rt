@@ -1,12 +1,14 @@
 ghost use Rattle.std.specs.Prelude.{◌≡◌, ◌<◌, ◌≤◌, [], Some, length, slice_get, IfOk, All};
 ghost use Rattle.std.specs.List.{remove, insert};
-ghost use Rattle.ch_clients.specs.Clients.{handed_to, placed, AreAscending, MayTurn, most_clients};
+ghost use Rattle.ch_clients.specs.Clients.{handed_to, placed, AreAscending, MayTurn};
+ghost use Rattle.ch_clients.specs.declared.limits.TheConstants.{MOST_CLIENTS};
 ghost use Rattle.ch_clients.specs.Steps.{IsStepAt, setting_with};
 ghost use Rattle.ch_config.specs.Config.{IsConfig};
 ghost use Rattle.ch_desk.specs.Views.{IsDeskOf};
 ghost use Rattle.ch_history.specs.Limits.{IsMoment};
 
 use crate::client::{Client, Step};
+use crate::limits::MOST_CLIENTS;
 use crate::room::insert_reserved;
 use crate::server::Server;
 use ch_base::{Memory, Shared};
@@ -14,9 +16,6 @@ use ch_desk::Desk;
 use ch_net::Link;
 use std::alloc::Global;
 use std::marker::Model;
-
-/// So many clients there are at most, with those who leave.
-pub(crate) const MOST_CLIENTS: usize = 256;
 
 /// The clients that are connected, ascending by their numbers, with all the room that there will be. One is
 /// found by its number in logarithmic time.
@@ -27,17 +26,18 @@ pub(crate) struct Connected<L: Link> {
 
 impl<L: Link> Model for Connected<L> {
     ghost use Rattle.std.specs.Prelude.{◌≤◌, List, vec_capacity};
-    ghost use Rattle.ch_clients.specs.Clients.{Client, AreAscending, most_clients};
+    ghost use Rattle.ch_clients.specs.Clients.{Client, AreAscending};
+    ghost use Rattle.ch_clients.specs.declared.limits.TheConstants.{MOST_CLIENTS};
 
     ghost Value = { List Client };
 
     ghost view = { λ c. c.rows.items };
 
-    ghost invariant = { λ c. (most_clients ≤ vec_capacity c.rows) × AreAscending c.rows.items };
+    ghost invariant = { λ c. (MOST_CLIENTS ≤ vec_capacity c.rows) × AreAscending c.rows.items };
 }
 
 impl<L: Link> Connected<L> {
-    /// Room for 256 clients, of which none is there.
+    /// Room for `MOST_CLIENTS` clients, of which none is there.
     pub(crate) fn new(alloc: Global) -> Result<Connected<L>, Memory>
         ensures { IfOk result (λ c. c ≡ []) }
     {
@@ -75,7 +75,7 @@ impl<L: Link> Connected<L> {
 
     /// Lets a client in, behind those whose numbers aren't above its own. There is room for it.
     pub(crate) fn place(&mut self, client: Client<L>)
-        requires { length self.old < most_clients }
+        requires { length self.old < MOST_CLIENTS }
         ensures { self.new ≡ placed client self.old }
     {
         let number = client.number();
@@ -116,7 +116,7 @@ impl<L: Link> Connected<L> {
 
     /// Puts a client back at the place at which it was taken out.
     pub(crate) fn put_back(&mut self, place: usize, client: Client<L>)
-        requires room { length self.old < most_clients }
+        requires room { length self.old < MOST_CLIENTS }
         requires place { place ≤ length self.old }
         requires ascending { AreAscending (insert self.old place client) }
         ensures { self.new ≡ insert self.old place client }

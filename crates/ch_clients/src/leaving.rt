@@ -1,5 +1,5 @@
 ghost use Rattle.std.specs.Prelude.{◌≡◌, ◌<◌, ◌++◌, ◌∷◌, List, [], length, IfOk, All};
-ghost use Rattle.ch_clients.specs.Clients.{most_clients};
+ghost use Rattle.ch_clients.specs.declared.limits.TheConstants.{MOST_CLIENTS};
 ghost use Rattle.ch_clients.specs.Leaving.{IsLeft, Left, LosesEach, part_of_left, still_there};
 ghost use Rattle.ch_clients.specs.Passes.{HasTurn};
 ghost use Rattle.ch_desk.specs.Views.{IsDeskOf};
@@ -7,7 +7,7 @@ ghost use Rattle.ch_history.specs.Limits.{IsMoment};
 ghost use Rattle.ch_live.specs.Peers.{IsPeerOver};
 
 use crate::answer::WorkerTurn;
-use crate::connected::MOST_CLIENTS;
+use crate::limits::MOST_CLIENTS;
 use crate::next::Next;
 use crate::room::insert_reserved;
 use crate::server::Server;
@@ -25,18 +25,18 @@ pub(crate) struct Leaving<W> {
 
 impl<W> Model for Leaving<W> {
     ghost use Rattle.std.specs.Prelude.{◌≤◌, List, map, vec_capacity};
-    ghost use Rattle.ch_clients.specs.Clients.{most_clients};
+    ghost use Rattle.ch_clients.specs.declared.limits.TheConstants.{MOST_CLIENTS};
     ghost use Rattle.ch_live.specs.declared.peer.Peer.{Peer};
 
     ghost Value = { List Peer };
 
     ghost view = { λ l. map (λ x. x.peer) l.rows.items };
 
-    ghost invariant = { λ l. most_clients ≤ vec_capacity l.rows };
+    ghost invariant = { λ l. MOST_CLIENTS ≤ vec_capacity l.rows };
 }
 
 impl<W: Drop> Leaving<W> {
-    /// Room for 256 of them, of which none is there.
+    /// Room for `MOST_CLIENTS` of them, of which none is there.
     pub(crate) fn new(alloc: Global) -> Result<Leaving<W>, Memory>
         ensures { IfOk result (λ l. l ≡ []) }
     {
@@ -54,7 +54,7 @@ impl<W: Drop> Leaving<W> {
 
     /// One more leaves. There is room for it.
     pub(crate) fn add(&mut self, live: Live<W>)
-        requires { length self.old < most_clients }
+        requires { length self.old < MOST_CLIENTS }
         ensures { self.new ≡ self.old ++ live.peer ∷ [] }
     {
         let at = self.rows.len();

@@ -13,6 +13,7 @@ mod clients;
 mod connected;
 mod copies;
 mod leaving;
+mod limits;
 mod lists;
 mod next;
 mod room;
@@ -21,3 +22,4 @@ mod upgrade;
 
 pub use answer::WorkerTurn;
 pub use clients::Clients;
+pub use limits::MOST_CLIENTS;

@@ -1,5 +1,6 @@
 ghost use Rattle.std.specs.Prelude.{◌≡◌, ◌<◌, ◌≤◌, ◌+◌, ◌++◌, [], Some, length, slice_get, All};
-ghost use Rattle.ch_clients.specs.Clients.{Client as ClientView, most_clients, MayTurn};
+ghost use Rattle.ch_clients.specs.Clients.{Client as ClientView, MayTurn};
+ghost use Rattle.ch_clients.specs.declared.limits.TheConstants.{MOST_CLIENTS};
 ghost use Rattle.ch_clients.specs.Passes.{HasTurn};
 ghost use Rattle.ch_clients.specs.Serving.{Fate, IsFateOfEnded, IsServed, Turned, client_of, leaver_of};
 ghost use Rattle.ch_clients.specs.Spoken.{spoken};
@@ -44,7 +45,7 @@ impl<L: Link> Lists<L> {
         requires desk { IsDeskOf server.now.config (D.view desk.old) }
         requires may { All (MayTurn server.now.config) self.old.connected }
         requires over { All (IsPeerOver server.now.config) self.old.leaving }
-        requires room { length self.old.connected + length self.old.leaving ≤ most_clients }
+        requires room { length self.old.connected + length self.old.leaving ≤ MOST_CLIENTS }
         requires now { IsMoment now }
         ensures turn { (turned : Turned)
             × HasTurn (IsServed (setting_with server.now now L.messages)) (λ t. client_of t.fate) (λ t. t.part) place
@@ -64,7 +65,7 @@ impl<L: Link> Lists<L> {
         requires config { IsConfig server.now.config }
         requires may { MayGoOn server.now.config place step self.old.connected }
         requires over { All (IsPeerOver server.now.config) self.old.leaving }
-        requires room { length self.old.connected + length self.old.leaving ≤ most_clients }
+        requires room { length self.old.connected + length self.old.leaving ≤ MOST_CLIENTS }
         requires now { IsMoment now }
         ensures becomes { (client : ClientView) → slice_get self.old.connected place ≡ Some client
             → (fate : Fate)
@@ -90,7 +91,7 @@ impl<L: Link> Lists<L> {
         requires place { place < length self.old.connected }
         requires config { IsConfig server.now.config }
         requires may { MayGoOn server.now.config place (Step.Upgrades target.now) self.old.connected }
-        requires room { length self.old.connected ≤ most_clients }
+        requires room { length self.old.connected ≤ MOST_CLIENTS }
         requires now { IsMoment now }
         ensures becomes { (client : ClientView) → slice_get self.old.connected place ≡ Some client
             → (fate : Fate)
@@ -126,7 +127,7 @@ impl<L: Link> Lists<L> {
         requires place { place < length self.old.connected }
         requires may { MayGoOn server.now.config place Step.Ends self.old.connected }
         requires over { All (IsPeerOver server.now.config) self.old.leaving }
-        requires room { length self.old.connected + length self.old.leaving ≤ most_clients }
+        requires room { length self.old.connected + length self.old.leaving ≤ MOST_CLIENTS }
         ensures becomes { (client : ClientView) → slice_get self.old.connected place ≡ Some client
             → (fate : Fate)
             × (result.part ≡ WorkerTurn.Moved) × IsFateOfEnd client.speech fate
@@ -146,7 +147,7 @@ impl<L: Link> Lists<L> {
 
 /// A client that ended leaves, where its session owes losses.
 fn leave<L: Link>(leaving: &mut Leaving<L::Wire>, protocol: Protocol<L>)
-    requires room { length leaving.old < most_clients }
+    requires room { length leaving.old < MOST_CLIENTS }
     ensures { (fate : Fate) × IsFateOfEnd (spoken L.told L.Wire.told protocol) fate
         × (client_of fate ≡ []) × (leaving.new ≡ leaving.old ++ leaver_of fate) }
 {
@@ -157,7 +158,7 @@ fn leave<L: Link>(leaving: &mut Leaving<L::Wire>, protocol: Protocol<L>)
 }
 
 fn leave_live<W: Drop>(leaving: &mut Leaving<W>, live: Live<W>)
-    requires room { length leaving.old < most_clients }
+    requires room { length leaving.old < MOST_CLIENTS }
     ensures { (fate : Fate) × IsFateOfEnded live.peer fate
         × (client_of fate ≡ []) × (leaving.new ≡ leaving.old ++ leaver_of fate) }
 {

@@ -1,5 +1,6 @@
 -- The bounds of a configuration's numbers, and the configuration that is built in.
 use Rattle.std.specs.Prelude.{ℕ, ◌≤◌, [], ◌∷◌, true, codes, None}
+use Rattle.ch_config.specs.declared.limits.TheConstants.{MAX_SHARDS, MAX_WORKERS}
 use Rattle.ch_config.specs.declared.config.Config.{Config}
 
 -- a number from 1 to most
@@ -8,9 +9,9 @@ IsCount most n = (1 ≤ n) × (n ≤ most)
 
 -- the numbers are within their bounds
 pub record IsConfig (config : Config) : Type 0 where
-  pub chan_shards : IsCount 64 config.chan_shards
-  pub user_shards : IsCount 64 config.user_shards
-  pub workers : IsCount 63 config.workers
+  pub chan_shards : IsCount MAX_SHARDS config.chan_shards
+  pub user_shards : IsCount MAX_SHARDS config.user_shards
+  pub workers : IsCount MAX_WORKERS config.workers
 
 -- the configuration that serves where none is given
 abbrev pub built_in : Config

@@ -7,20 +7,20 @@ use std::alloc::Global;
 /// What a server is started with.
 #[derive(Debug, PartialEq, Eq, Drop)]
 pub struct Config {
-    /// The app's id in paths of the HTTP API (Pusher Channels documentation, HTTP API): 1 to 64 letters or
-    /// digits.
+    /// The app's id in paths of the HTTP API (Pusher Channels documentation, HTTP API): 1 to
+    /// `LONGEST_WORD` letters or digits.
     pub app_id: Text,
-    /// The app's public key: 1 to 64 letters or digits.
+    /// The app's public key: 1 to `LONGEST_WORD` letters or digits.
     pub key: Text,
-    /// The app's secret, with which signatures are made: 1 to 128 bytes.
+    /// The app's secret, with which signatures are made: 1 to `LONGEST_SECRET` bytes.
     pub secret: Text,
     /// Whether sockets may send client events.
     pub client_events: bool,
-    /// How many shards the channels are split over: 1 to 64.
+    /// How many shards the channels are split over: 1 to `MAX_SHARDS`.
     pub chan_shards: u64,
-    /// How many shards the users are split over: 1 to 64.
+    /// How many shards the users are split over: 1 to `MAX_SHARDS`.
     pub user_shards: u64,
-    /// How many threads serve connections: 1 to 63.
+    /// How many threads serve connections: 1 to `MAX_WORKERS`.
     pub workers: u64,
     /// Where connections are accepted.
     pub listen: Address,

@@ -7,6 +7,10 @@
 
 mod address;
 mod config;
+mod limits;
 
 pub use address::{Address, Target};
 pub use config::Config;
+pub use limits::{
+    DEFAULT_SHARDS, DEFAULT_WORKERS, LONGEST_SECRET, LONGEST_WORD, MAX_SHARDS, MAX_WORKERS,
+};

@@ -4,6 +4,7 @@ use Rattle.std.specs.Str.{is_utf8}
 use Rattle.serde_json.specs.Data.{Data}
 use Rattle.serde_json.specs.Find.{as_object, as_bool}
 use Rattle.serde_json.specs.Read.{read}
+use Rattle.ch_config.specs.declared.limits.TheConstants.{DEFAULT_SHARDS, MAX_SHARDS, DEFAULT_WORKERS, MAX_WORKERS}
 use Rattle.ch_config.specs.declared.config.Config.{Config}
 use Rattle.ch_config_text.specs.Judging.{required, defaulted, ◌>>=◌}
 use Rattle.ch_config_text.specs.Values.{word_in, secret_in, count_in, address_in, webhook_in}
@@ -18,9 +19,9 @@ fields_of given = do
   key ← required Key word_in given
   secret ← required Secret secret_in given
   client_events ← defaulted ClientEvents true as_bool given
-  chan_shards ← defaulted ChanShards 4 (count_in 64) given
-  user_shards ← defaulted UserShards 4 (count_in 64) given
-  workers ← defaulted Workers 2 (count_in 63) given
+  chan_shards ← defaulted ChanShards DEFAULT_SHARDS (count_in MAX_SHARDS) given
+  user_shards ← defaulted UserShards DEFAULT_SHARDS (count_in MAX_SHARDS) given
+  workers ← defaulted Workers DEFAULT_WORKERS (count_in MAX_WORKERS) given
   listen ← defaulted Listen built_in_address address_in given
   webhook ← defaulted Webhook None webhook_in given
   Ok (record {

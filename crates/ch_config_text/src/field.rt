@@ -3,19 +3,19 @@ ghost use Rattle.std.specs.Prelude.{◌≡◌};
 /// A field of a configuration, in the order in which they are judged.
 #[derive(Clone, Copy, Debug, PartialEq, Eq)]
 pub enum Field {
-    /// 1 to 64 letters or digits. It has to be there.
+    /// 1 to `LONGEST_WORD` letters or digits. It has to be there.
     AppId,
-    /// 1 to 64 letters or digits. It has to be there.
+    /// 1 to `LONGEST_WORD` letters or digits. It has to be there.
     Key,
-    /// 1 to 128 bytes. It has to be there.
+    /// 1 to `LONGEST_SECRET` bytes. It has to be there.
     Secret,
     /// `true` or `false`, and `true` where it isn't there.
     ClientEvents,
-    /// 1 to 64, and 4 where it isn't there.
+    /// 1 to `MAX_SHARDS`, and `DEFAULT_SHARDS` where it isn't there.
     ChanShards,
-    /// 1 to 64, and 4 where it isn't there.
+    /// 1 to `MAX_SHARDS`, and `DEFAULT_SHARDS` where it isn't there.
     UserShards,
-    /// 1 to 63, and 2 where it isn't there.
+    /// 1 to `MAX_WORKERS`, and `DEFAULT_WORKERS` where it isn't there.
     Workers,
     /// `<IPv4 address>:<port>`, and `127.0.0.1:6001` where it isn't there.
     Listen,

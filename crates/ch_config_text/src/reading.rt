@@ -8,7 +8,7 @@ ghost use Rattle.ch_config_text.specs.declared.fault.ConfigFault.TheVariants.{Me
 use crate::fault::ConfigFault;
 use crate::field::Field;
 use crate::value::{client_events, count, listen, secret, webhook, word};
-use ch_config::Config;
+use ch_config::{Config, DEFAULT_SHARDS, DEFAULT_WORKERS, MAX_SHARDS, MAX_WORKERS};
 use serde_json::Value;
 use std::alloc::Global;
 
@@ -42,9 +42,9 @@ fn judge(alloc: Global, value: &Value) -> Result<Config, ConfigFault>
         key: word(alloc, value, Field::Key)?,
         secret: secret(alloc, value, Field::Secret)?,
         client_events: client_events(value)?,
-        chan_shards: count(value, Field::ChanShards, 64, 4)?,
-        user_shards: count(value, Field::UserShards, 64, 4)?,
-        workers: count(value, Field::Workers, 63, 2)?,
+        chan_shards: count(value, Field::ChanShards, MAX_SHARDS, DEFAULT_SHARDS)?,
+        user_shards: count(value, Field::UserShards, MAX_SHARDS, DEFAULT_SHARDS)?,
+        workers: count(value, Field::Workers, MAX_WORKERS, DEFAULT_WORKERS)?,
         listen: listen(value)?,
         webhook: webhook(alloc, value)?,
     })

@@ -15,11 +15,11 @@ use crate::fault::ConfigFault;
 use crate::field::Field;
 use crate::target::target;
 use ch_base::Text;
-use ch_config::{Address, Target};
+use ch_config::{Address, LONGEST_SECRET, LONGEST_WORD, Target};
 use serde_json::Value;
 use std::alloc::Global;
 
-/// The value of a field that is 1 to 64 letters or digits.
+/// The value of a field that is 1 to `LONGEST_WORD` letters or digits.
 pub fn word(alloc: Global, object: &Value, field: Field) -> Result<Text, ConfigFault>
     ensures { Answers (required field word_in (view object.now)) result }
 {
@@ -30,12 +30,12 @@ pub fn word(alloc: Global, object: &Value, field: Field) -> Result<Text, ConfigF
     Ok(Text::of(alloc, text)?)
 }
 
-/// The value of a field that is 1 to 128 bytes.
+/// The value of a field that is 1 to `LONGEST_SECRET` bytes.
 pub fn secret(alloc: Global, object: &Value, field: Field) -> Result<Text, ConfigFault>
     ensures { Answers (required field secret_in (view object.now)) result }
 {
     let text = text_of(object, field)?;
-    if text.is_empty() || text.len() > 128 {
+    if text.is_empty() || text.len() > LONGEST_SECRET {
         return Err(ConfigFault::Bad(field));
     }
     Ok(Text::of(alloc, text)?)
@@ -56,11 +56,11 @@ fn text_of(object: &Value, field: Field) -> Result<&str, ConfigFault>
     }
 }
 
-/// Whether it is 1 to 64 letters or digits.
+/// Whether it is 1 to `LONGEST_WORD` letters or digits.
 fn is_word(text: &str) -> bool
     ensures { result ≡ is_word text.now }
 {
-    !text.is_empty() && text.len() <= 64 && are_alphanumeric(text.as_bytes())
+    !text.is_empty() && text.len() <= LONGEST_WORD && are_alphanumeric(text.as_bytes())
 }
 
 fn are_alphanumeric(bytes: &[u8]) -> bool

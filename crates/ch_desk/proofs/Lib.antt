@@ -1,8 +1,5 @@
-pub mod EmptySeats
-pub mod Answering
-pub mod UserAnswering
-pub mod Seats
-pub mod Benches
+pub mod AnswerKinds
 pub mod OwnEntries
 pub mod MakingSteps
 pub mod AloneCalls
+pub mod Rows

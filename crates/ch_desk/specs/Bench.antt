@@ -1,8 +1,6 @@
 -- What contracts see of a bench.
-use Rattle.std.specs.Prelude.{ℕ, ◌≤◌, ◌<◌, List, [], length, slice_index_or}
+use Rattle.std.specs.Prelude.{ℕ, List, [], length, slice_index_or}
 use Rattle.ch_history.specs.Entries.{ChanHistory, UserHistory}
-use Rattle.ch_history.specs.Placement.{IsLegalAt, IsUserLegalAt}
-use Rattle.ch_desk.specs.OwnEntries.{AreBy}
 use Rattle.ch_desk.specs.Views.{DeskView}
 
 -- the history of each channel shard, and of each user shard
@@ -28,14 +26,3 @@ view_of bench = record {
   chans = seen bench;
   users = seen_user bench;
 }
-
--- there are 1 to 64 shards of each kind, and each history is a legal one of its shard and has calls of caller 0 alone
-pub record IsBench (bench : BenchModel) : Type 0 where
-  pub some : 1 ≤ length bench.shards
-  pub few : length bench.shards ≤ 64
-  pub some_users : 1 ≤ length bench.users
-  pub few_users : length bench.users ≤ 64
-  pub legal : (k : ℕ) → k < length bench.shards → IsLegalAt (k, length bench.shards) (seen bench k)
-  pub legal_users : (k : ℕ) → k < length bench.users → IsUserLegalAt (k, length bench.users) (seen_user bench k)
-  pub alone : (k : ℕ) → AreBy 0 (seen bench k)
-  pub alone_users : (k : ℕ) → AreBy 0 (seen_user bench k)

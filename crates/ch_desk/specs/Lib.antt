@@ -1,7 +1,8 @@
 pub mod Views
 pub mod OwnEntries
 pub mod Alone
-pub mod UserAlone
+pub mod ShardLaws
+pub mod Rows
 pub mod Bench
 pub mod AloneCalls
 pub mod Laws

@@ -1,5 +1,6 @@
 ghost use Rattle.std.specs.Prelude.{◌≡◌, ◌<◌, ◌≤◌, ℕ, IfOk};
 ghost use Rattle.ch_base.specs.Growth.{GrowsBy};
+ghost use Rattle.ch_config.specs.declared.limits.TheConstants.{MAX_SHARDS};
 ghost use Rattle.ch_history.specs.AnswerKinds.{IsAnswerTo, IsUserAnswerTo};
 ghost use Rattle.ch_history.specs.Placement.{IsLegalAt, IsUserLegalAt};
 ghost use Rattle.ch_protocol.specs.declared.ask.Ask.TheVariants.{Chan, User};
@@ -18,20 +19,20 @@ pub trait Desk<R> {
         ensures caller { result ≡ (view self.now).caller }
         ensures small { result < 64 };
 
-    /// How many channel shards there are: 1 to 64. What the caller knows of each is a legal history of calls
+    /// How many channel shards there are: 1 to `MAX_SHARDS`. What the caller knows of each is a legal history of calls
     /// that belong to it.
     fn chan_shards(&self) -> u64
         ensures count { result ≡ (view self.now).chan_shards }
         ensures some { 1 ≤ result }
-        ensures few { result ≤ 64 }
+        ensures few { result ≤ MAX_SHARDS }
         ensures legal { (k : ℕ) → k < result → IsLegalAt (k, result) ((view self.now).chans k) };
 
-    /// How many user shards there are: 1 to 64. What the caller knows of each is a legal history of calls
+    /// How many user shards there are: 1 to `MAX_SHARDS`. What the caller knows of each is a legal history of calls
     /// that belong to it.
     fn user_shards(&self) -> u64
         ensures count { result ≡ (view self.now).user_shards }
         ensures some { 1 ≤ result }
-        ensures few { result ≤ 64 }
+        ensures few { result ≤ MAX_SHARDS }
         ensures legal { (k : ℕ) → k < result → IsUserLegalAt (k, result) ((view self.now).users k) };
 
     /// Serves a call on a channel shard, to which it belongs.

@@ -5,20 +5,19 @@
 //! call's own, the other lists stay, and every list is a legal history of its shard. What a caller did is
 //! said by its own entries among those that each list gained: [`make`] and [`make_all`] make asks at any
 //! desk, and by [`calls_chain`] the calls of one after another are all of them in order. A [`Bench`] is the
-//! desk of a caller that is alone: there nothing lies between. A [`Starved`] refuses some of the calls that
-//! are made at another desk, for want of memory.
+//! desk of a caller that is alone: there nothing lies between. What it does on shards of either kind it does
+//! on any [`Shard`]. A [`Starved`] refuses some of the calls that are made at another desk, for want of
+//! memory.
 #![tactic(auto)]
 
 mod bench;
-mod copies;
 mod desk;
 mod laws;
 mod making;
 mod numbers;
-mod seat;
+mod row;
+mod shard;
 mod starved;
-mod user_copies;
-mod user_seat;
 
 pub use bench::Bench;
 pub use ch_protocol::{AnswerList, Ask, AskList, Made};
@@ -26,4 +25,5 @@ pub use desk::Desk;
 pub use laws::{calls_alone, calls_chain};
 pub use making::{make, make_all};
 pub use numbers::NumberList;
+pub use shard::Shard;
 pub use starved::Starved;

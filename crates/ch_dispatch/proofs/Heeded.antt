@@ -15,7 +15,7 @@ use Rattle.ch_protocol.specs.declared.heard.Heard.TheVariants as heard
 use Rattle.ch_protocol.specs.declared.heard.Settled.{Settled}
 use Rattle.ch_rate.specs.Quiet.{quiet_from}
 use Rattle.ch_session.specs.Judging.{known, asks_of, user_data_of, IsSoundAsk, Hears as HearsText}
-use Rattle.ch_session.specs.Kept.{Kept, IsOver, IsSession}
+use Rattle.ch_session.specs.Kept.{Kept, HasShardsOf, IsSession}
 use Rattle.ch_session.specs.Waits.{Awaits, HoldsData}
 use Rattle.ch_session.specs.declared.waiting.Waiting.{Waiting}
 use Rattle.ch_session.specs.declared.waiting.Waiting.TheVariants.{Nothing}
@@ -106,7 +106,7 @@ hears_text config now text old mid new hears response judged awaits stands same 
 )
 
 pub over_after : (config : Config) (now : ℕ) (old mid new : Kept) → mid ≡ record old { waits = mid.waits; quiet = quiet_from now }
-    → new ≡ record mid { told = new.told; waits = new.waits } → length new.told.used ≡ length mid.told.used → IsOver old config → IsOver new config
+    → new ≡ record mid { told = new.told; waits = new.waits } → length new.told.used ≡ length mid.told.used → HasShardsOf old config → HasShardsOf new config
 over_after config now old mid new before same used over = record {
   chans = ap (λ (s : Kept). s.chans) same ∙ ap (λ (s : Kept). s.chans) before ∙ over.chans;
   shards = used ∙ ap (λ (s : Kept). length s.told.used) before ∙ over.shards;

@@ -16,7 +16,7 @@ use Rattle.ch_protocol.specs.declared.ask.Ask.TheVariants.{Chan, User}
 use Rattle.ch_protocol.specs.declared.ask.Made.{Made}
 use Rattle.ch_protocol.specs.declared.ask.Made.TheVariants as made
 use Rattle.ch_session.specs.Judging.{IsSoundAsk}
-use Rattle.ch_session.specs.Kept.{Kept, IsOver, IsSession, losses_left}
+use Rattle.ch_session.specs.Kept.{Kept, HasShardsOf, IsSession, losses_left}
 use Rattle.ch_session.specs.Losses.{IsNextUsed}
 use Rattle.ch_dispatch.specs.Losses.{IsOverDesk, OwesLoss, MakesLosses, AreAllLosses}
 use Rattle.ch_dispatch.proofs.Heeded.{may_ask, desk_after}
@@ -157,12 +157,12 @@ losses_all now old s desk mid l none = (
 pub over_still : (old s : Kept) (xs : List Asked) (a b : DeskView) → s ≡ record old { lost = s.lost } → Makes xs a b → IsOverDesk old a → IsOverDesk s b
 over_still old s xs a b same calls is = record {
   config = is.config;
-  over = subst (λ k. IsOver k is.config) (sym same) (record { chans = is.over.chans; shards = is.over.shards });
+  over = subst (λ k. HasShardsOf k is.config) (sym same) (record { chans = is.over.chans; shards = is.over.shards });
   shards = desk_after is.config xs a b calls is.shards;
 }
 
 pub next_may : (now : ℕ) (s : Kept) (mid : DeskView) (ask : Ask) → IsMoment now → IsOverDesk s mid
-    → ((config : Config) → IsOver s config → IsMoment now → IsSoundAsk config ask) → MayAsk mid ask
+    → ((config : Config) → HasShardsOf s config → IsMoment now → IsSoundAsk config ask) → MayAsk mid ask
 next_may now s mid ask moment is sound = may_ask is.config mid is.shards ask (sound is.config is.over moment)
 
 -- none is left to be made

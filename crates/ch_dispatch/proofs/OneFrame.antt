@@ -13,7 +13,7 @@ use Rattle.ch_base.specs.declared.user.UserCall.{UserCall}
 use Rattle.ch_protocol.specs.Asks.{Asked, ComesOf}
 use Rattle.ch_protocol.specs.ClientMessages.{Verdict}
 use Rattle.ch_protocol.specs.Sessions.{Session, judged_as, outcome, chan_outcome, user_outcome, subscribes, signs_in_as, watch_ask, sign_in_ask, ask_on}
-use Rattle.ch_protocol.specs.UserChannels.{channel_user}
+use Rattle.ch_history.specs.UserChannels.{channel_user}
 use Rattle.ch_protocol.specs.declared.client_message.ClientMessage.TheVariants.{Ping, Pong, Subscribe, Unsubscribe, SignIn, Say}
 use Rattle.ch_protocol.specs.declared.client_message.UserData.{UserData}
 use Rattle.ch_protocol.specs.declared.ask.Ask.{Ask}

@@ -5,13 +5,13 @@ use Rattle.ch_desk.specs.OwnEntries.{IsAnswered, Makes}
 use Rattle.ch_desk.specs.Views.{DeskView, IsDeskOf}
 use Rattle.ch_protocol.specs.Asks.{Asked, asks_of}
 use Rattle.ch_protocol.specs.Settling.{SettledAsk}
-use Rattle.ch_session.specs.Kept.{Kept, IsOver, IsSession, losses_left}
+use Rattle.ch_session.specs.Kept.{Kept, HasShardsOf, IsSession, losses_left}
 use Rattle.ch_session.specs.Losses.{IsNextUsed}
 
 -- the session and the desk have the shards of one configuration
 pub record IsOverDesk (s : Kept) (desk : DeskView) : Type 0 where
   pub config : Config
-  pub over : IsOver s config
+  pub over : HasShardsOf s config
   pub shards : IsDeskOf config desk
 
 -- the session has a loss that is still to be made

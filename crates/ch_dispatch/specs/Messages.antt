@@ -1,5 +1,6 @@
 -- What a text that a session hears comes to.
 use Rattle.std.specs.Prelude.{◌≡◌, ◌⊎◌, ℕ, List, [], ◌∷◌}
+use Rattle.ch_base.specs.declared.error_codes.TheConstants.{OUT_OF_MEMORY}
 use Rattle.ch_protocol.specs.Asks.{Asked}
 use Rattle.ch_protocol.specs.Readings.{Reading, Reads}
 use Rattle.ch_protocol.specs.Sessions.{Session, judged}
@@ -13,7 +14,7 @@ use Rattle.ch_dispatch.specs.MadeAsks.{outcomes_from, AreMadeFrom}
 -- what the session makes of the text, by some reading of it; where there is no memory for that, it is refused
 abbrev pub IsHeard : Session → List ℕ → List ℕ → Heard → Type 0
 IsHeard s text user_data h =
-    (h ≡ heard.Refuse 4329) ⊎ ((r : Reading) × Reads text r × (h ≡ judged s r) × (user_data ≡ user_data_of r.verdict))
+    (h ≡ heard.Refuse OUT_OF_MEMORY) ⊎ ((r : Reading) × Reads text r × (h ≡ judged s r) × (user_data ≡ user_data_of r.verdict))
 
 -- what that comes to: the outcomes of its asks, or the one of a message without asks
 abbrev pub comes_to : List ℕ → Heard → List Asked → List Settled

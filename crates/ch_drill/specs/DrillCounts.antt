@@ -2,12 +2,13 @@
 use Rattle.std.specs.Prelude.{◌≤◌, ◌<◌, ◌^◌, ◌+◌, ◌*◌, ◌%◌, ◌==◌, ℕ, zero, suc, List, ◌++◌, codes, min, if◌then◌else◌}
 use Rattle.std.specs.Fmt.{decimal}
 use Rattle.ch_history.specs.Placement.{shard_of}
+use Rattle.ch_drill.specs.declared.limits.TheConstants.{MOST_ROUNDS, MOST_WORKERS}
 use Rattle.ch_drill.specs.declared.words.Drill.{Drill}
 use Rattle.ch_drill.specs.declared.counts.DrillCounts.{DrillCounts}
 
--- a drill is of 1 to 16 workers, and of no more rounds than that
+-- a drill is of 1 to `MOST_WORKERS` workers, and of at most `MOST_ROUNDS` rounds
 abbrev pub IsSmall : Drill → Type 0
-IsSmall drill = (1 ≤ drill.workers) × (drill.workers ≤ 16) × (drill.rounds ≤ 1000)
+IsSmall drill = (1 ≤ drill.workers) × (drill.workers ≤ MOST_WORKERS) × (drill.rounds ≤ MOST_ROUNDS)
 
 -- how many turns each worker makes: one for its handshake, one for each message, one to hear that the other side is gone,
 -- and one for the losses

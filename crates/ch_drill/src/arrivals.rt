@@ -1,5 +1,6 @@
 //! The connection of each worker.
 ghost use Rattle.std.specs.Prelude.{◌≡◌, ◌≤◌, ◌++◌, IfOk, Some, string_bytes};
+ghost use Rattle.ch_drill.specs.declared.limits.TheConstants.{MOST_WORKERS};
 ghost use Rattle.ch_drill.specs.DrillLinks.{handshake, round_text, rounds_text, HasOneLink};
 
 use crate::counts::channel_of;
@@ -14,7 +15,7 @@ const HANDSHAKE: &str =
 /// The arrivals of a worker: one connection of this number. Its link gives the head of a handshake in one read; its
 /// wire then says a subscription and its end for each of so many rounds, and is gone.
 pub fn arrivals_of(alloc: Global, number: u64, rounds: u64) -> Result<MemArrivals<MemLink>, Memory>
-    requires { (1 ≤ number) × (number ≤ 16) }
+    requires { (1 ≤ number) × (number ≤ MOST_WORKERS) }
     ensures { IfOk result (HasOneLink number rounds) }
 {
     let link = link_of(alloc, rounds)?;

@@ -12,6 +12,7 @@
 mod arrivals;
 mod closing;
 mod counts;
+mod limits;
 mod printing;
 mod running;
 mod seat;
@@ -21,6 +22,7 @@ mod working;
 pub use arrivals::arrivals_of;
 pub use closing::is_closed_after;
 pub use counts::{DrillCounts, drill_counts};
+pub use limits::{MOST_ROUNDS, MOST_WORKERS};
 pub use printing::{drill_text, usage_text};
 pub use running::drill;
 pub use words::{Drill, drill_of};

@@ -3,6 +3,7 @@ ghost use Rattle.std.specs.Prelude.{◌≡◌, ◌≤◌, ◌+◌, length, IfOk}
 ghost use Rattle.ch_config.specs.Config.{IsConfig};
 ghost use Rattle.ch_house.specs.Houses.{ArePassesOf, chan_count, user_count};
 ghost use Rattle.ch_worker.specs.Workers.{new_worker};
+ghost use Rattle.ch_drill.specs.declared.limits.TheConstants.{MOST_WORKERS};
 ghost use Rattle.ch_drill.specs.DrillLinks.{HasOneLink};
 ghost use Rattle.ch_drill.specs.Seats.{HasTwoShards, MayWork};
 
@@ -40,7 +41,7 @@ impl<'a> Seat<'a> {
         rounds: u64,
     ) -> Result<Seat<'a>, Memory>
         requires own { passes.house ≡ house.now }
-        requires few { house.now.chans.callers ≤ 16 }
+        requires few { house.now.chans.callers ≤ MOST_WORKERS }
         requires shards { (chan_count house.now ≡ 2) × (user_count house.now ≡ 2) }
         requires config { IsConfig config.now × HasTwoShards config.now }
         ensures desk { IfOk result (λ seat. seat.desk ≡ passes) }

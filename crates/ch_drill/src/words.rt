@@ -2,16 +2,11 @@
 ghost use Rattle.std.specs.Prelude.{IfOk};
 ghost use Rattle.ch_drill.specs.DrillWords.{IsReading, IsDrill};
 
+use crate::limits::{MOST_ROUNDS, MOST_WORKERS};
 use ch_base::{Memory, Text};
 use std::alloc::Global;
 
-/// The most workers of a drill.
-const MOST_WORKERS: u64 = 16;
-
-/// The most rounds of a drill.
-const MOST_ROUNDS: u64 = 1_000;
-
-/// A drill: 1 to 16 workers, each with 1 to 1,000 rounds.
+/// A drill: 1 to `MOST_WORKERS` workers, each with 1 to `MOST_ROUNDS` rounds.
 #[derive(Clone, Copy, Debug, PartialEq, Eq)]
 pub struct Drill {
     pub workers: u64,

@@ -3,6 +3,7 @@ ghost use Rattle.std.specs.Prelude.{◌≡◌, ◌≤◌, ℕ, All, Some, length
 ghost use Rattle.ch_config.specs.Config.{IsConfig};
 ghost use Rattle.ch_house.specs.Houses.{ArePassesOf, chan_count, user_count};
 ghost use Rattle.ch_pool.specs.AllPasses.{AreAllOf};
+ghost use Rattle.ch_drill.specs.declared.limits.TheConstants.{MOST_WORKERS};
 ghost use Rattle.ch_drill.specs.DrillCounts.{IsSmall};
 ghost use Rattle.ch_drill.specs.Seats.{HasTwoShards, MayWork};
 ghost use Rattle.ch_drill.specs.declared.seat.Seat.{Seat as seat};
@@ -60,7 +61,7 @@ fn sit_down<'a>(
     rounds: u64,
 ) -> Result<Vec<Seat<'a>>, Memory>
     requires passes { AreAllOf house.now taken.items }
-    requires few { house.now.chans.callers ≤ 16 }
+    requires few { house.now.chans.callers ≤ MOST_WORKERS }
     requires shards { (chan_count house.now ≡ 2) × (user_count house.now ≡ 2) }
     requires config { IsConfig config.now × HasTwoShards config.now }
     ensures desks { IfOk result (λ seats. map (λ s. s.desk) seats.items ≡ taken.items) }

@@ -10,6 +10,7 @@ use Rattle.ch_io.specs.Counts.{Rose}
 use Rattle.ch_io.proofs.Counting.{Rose-after}
 use Rattle.ch_net.proofs.Moving.{LinkMoves-none}
 use Rattle.ch_net.specs.Links.{LinkTold}
+use Rattle.ch_exchange.specs.declared.limits.TheConstants.{MOST_READ}
 use Rattle.ch_exchange.specs.Causes.{TurnHasCause}
 use Rattle.ch_exchange.specs.Hearing.{HasCourse, Answers, ReadsOnce, with_bytes}
 use Rattle.ch_exchange.specs.Pending.{Pending}
@@ -116,7 +117,7 @@ some_read n buffer within some none =
     let zero : length (take n buffer) ≡ 0 = ap length none in
     some (omega (arith, within, cut, zero))
 
-few : (n : ℕ) (buffer : List ℕ) → length buffer ≡ 4096 → length (take n buffer) ≤ 4096
+few : (n : ℕ) (buffer : List ℕ) → length buffer ≡ MOST_READ → length (take n buffer) ≤ MOST_READ
 few n buffer full = let cut = length-take n buffer in omega (arith, full, cut)
 
 abbrev pub read_answer : ℕ → ExTurn
@@ -135,7 +136,7 @@ gone_cause : (n : ℕ) (w u : LinkTold) (some : Bool) → nat_lt 0 n ≡ some �
 gone_cause n w u false is rose = rose (grind (arith, nat_tests))
 gone_cause n w u true is rose = tt
 
-pub hears_none : (s : Serving) (f : Fed) (n : ℕ) (buffer : List ℕ) (w u : LinkTold) (desk desk_new : DeskView) (g : Fed) (result : ExTurn) → length buffer ≡ 4096
+pub hears_none : (s : Serving) (f : Fed) (n : ℕ) (buffer : List ℕ) (w u : LinkTold) (desk desk_new : DeskView) (g : Fed) (result : ExTurn) → length buffer ≡ MOST_READ
     → ReadsOnce buffer w u (Ok n) → Answers s (with_bytes f (take n buffer)) desk desk_new None → g ≡ with_bytes f (take n buffer) → result ≡ read_answer n
     → HasCourse s (Reading f) (Reading g) w u desk desk_new result
 hears_none s f n buffer w u desk desk_new g result full (within, moves, rose) (asked, comes, calls) is answer =
@@ -183,7 +184,7 @@ made_cause written p w u v new Peer falls never = absurd never
 made_cause written p w u v new Fault falls (un, rose) = Rose-after w.counts.faults u.counts.faults v.counts.faults falls rose
 
 pub hears_some : (s : Serving) (f : Fed) (n : ℕ) (buffer : List ℕ) (w u v : LinkTold) (desk desk_new : DeskView) (p : Pending) (new : Stage) (result : ExTurn)
-    → length buffer ≡ 4096 → ReadsOnce buffer w u (Ok n) → Answers s (with_bytes f (take n buffer)) desk desk_new (Some p) → WritesOn true p u v new result
+    → length buffer ≡ MOST_READ → ReadsOnce buffer w u (Ok n) → Answers s (with_bytes f (take n buffer)) desk desk_new (Some p) → WritesOn true p u v new result
     → HasCourse s (Reading f) new w v desk desk_new result
 hears_some s f n buffer w u v desk desk_new p new result full (within, moves, rose) (asked, comes, calls) o = (
   course,

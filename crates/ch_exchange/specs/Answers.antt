@@ -5,6 +5,7 @@ use Rattle.ch_desk.specs.OwnEntries.{IsAnswered}
 use Rattle.ch_protocol.specs.Asks.{Asked, asks_of, came_of}
 use Rattle.ch_protocol.specs.declared.ask.Ask.{Ask}
 use Rattle.ch_protocol.specs.declared.ask.Made.{Made}
+use Rattle.ch_requests.specs.declared.limits.TheConstants.{LONGEST_WAIT}
 use Rattle.ch_requests.specs.Handshakes.{shaken}
 use Rattle.ch_requests.specs.Plans.{planned}
 use Rattle.ch_requests.specs.Replies.{refusal}
@@ -21,13 +22,9 @@ use Rattle.ch_exchange.specs.declared.pending.After.TheVariants.{Close, Upgrade 
 
 -- ---- what bytes mean
 
--- how long a request may take until it is whole, in milliseconds
-abbrev pub longest_wait : ℕ
-longest_wait = 30000
-
 -- whether the time of a request is over whose exchange began at a moment
 abbrev pub is_late : ℕ → ℕ → Bool
-is_late since now = nat_le (since + longest_wait) now
+is_late since now = nat_le (since + LONGEST_WAIT) now
 
 -- what the bytes are, and which events the body of a request triggers, if it has no fault
 pub record Sense : Type 0 where

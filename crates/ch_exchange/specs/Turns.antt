@@ -6,6 +6,7 @@ use Rattle.ch_desk.specs.Views.{DeskView}
 use Rattle.ch_io.specs.Counts.{Rose}
 use Rattle.ch_net.specs.Links.{LinkTold, LinkMoves}
 use Rattle.ch_protocol.specs.Asks.{Asked}
+use Rattle.ch_exchange.specs.declared.limits.TheConstants.{MOST_READ}
 use Rattle.ch_exchange.specs.Answers.{ComesTo, is_late}
 use Rattle.ch_exchange.specs.Causes.{TurnHasCause}
 use Rattle.ch_exchange.specs.Pending.{Pending}
@@ -56,10 +57,6 @@ fed read stage = stage
 
 -- ---- reading
 
--- how many bytes a turn reads at most
-abbrev pub most_read : ℕ
-most_read = 4096
-
 -- a turn that can't read: the link has ended, or failed
 abbrev pub CannotRead : ExTurn → Type 0
 CannotRead Peer = Unit {0}
@@ -74,7 +71,7 @@ IsUnread c = (c.read ≡ []) × (c.asked ≡ []) × (c.reply ≡ None)
 -- link has ended or failed. Where a reply stands already, none is read.
 abbrev pub Reads : Serving → Stage → Course → ExTurn → Type 0
 Reads s (Reading f) c result =
-    (length c.read ≤ most_read)
+    (length c.read ≤ MOST_READ)
     × (ComesTo s (f.bytes ++ c.read) (is_late f.since s.now) c.asked c.reply ⊎ (CannotRead result × IsUnread c))
 Reads s (Replying p) c result = (c.read ≡ []) × (c.asked ≡ []) × (c.reply ≡ Some p)
 Reads s (Finished rest) c result = ⊥
@@ -105,8 +102,8 @@ HasMore Idle = Unit {0}
 HasMore _ = ⊥
 
 -- the whole reply was written, and this follows it
-abbrev pub IsOver : After → Course → Stage → Type 0
-IsOver after c new = (p : Pending) × (c.reply ≡ Some p) × (p.after ≡ after) × (c.written ≡ p.left) × (new ≡ Finished (behind after))
+abbrev pub HasWrittenAll : After → Course → Stage → Type 0
+HasWrittenAll after c new = (p : Pending) × (c.reply ≡ Some p) × (p.after ≡ after) × (c.written ≡ p.left) × (new ≡ Finished (behind after))
 
 -- bytes were read or written, or a reply was made
 abbrev pub HasMoved : Stage → Course → Type 0
@@ -120,8 +117,8 @@ abbrev pub IsAnswer : Course → Scene → Scene → ExTurn → Type 0
 IsAnswer c old new Moved =
     IsUnfinished new.stage × HasMoved old.stage c × (c.reply ≢ None → Rose old.link.counts.stalls new.link.counts.stalls)
 IsAnswer c old new Idle = IsUnfinished new.stage × HasRested old.stage c
-IsAnswer c old new (Upgrade target) = (rest : List ℕ) × IsOver (Upgraded target rest) c new.stage
-IsAnswer c old new Done = IsOver Close c new.stage
+IsAnswer c old new (Upgrade target) = (rest : List ℕ) × HasWrittenAll (Upgraded target rest) c new.stage
+IsAnswer c old new Done = HasWrittenAll Close c new.stage
 IsAnswer c old new Peer = c.reply ≡ None
 IsAnswer c old new Fault = IsUnfinished new.stage
 

@@ -7,6 +7,7 @@ ghost use Rattle.ch_exchange.specs.Hearing.{HasCourse};
 ghost use Rattle.ch_exchange.specs.Turns.{Course, TakesCourse, IsUnfinished, HasMore, rest_of};
 ghost use Rattle.ch_exchange.specs.declared.stage.Stage.TheVariants as stage;
 
+use crate::limits::MOST_READ;
 use crate::reading::read_once;
 use crate::serving::Serving;
 use crate::stage::Stage;
@@ -20,10 +21,7 @@ use ch_net::Link;
 use std::alloc::Global;
 use std::mem;
 
-/// How many bytes a turn reads at most.
-const MOST_READ: usize = 4_096;
-
-/// One exchange of a request and its reply, over a link. A moment is a number of milliseconds, at most 10^15.
+/// One exchange of a request and its reply, over a link. A moment is a number of milliseconds, at most `LATEST_MOMENT`.
 #[derive(Drop)]
 pub struct Exchange<L> {
     alloc: Global,
@@ -66,8 +64,8 @@ fn rest_of(alloc: Global, stage: Stage) -> Bytes
 
 impl<L: Link> Exchange<L> {
     /// One turn at the moment `now`, of a server that started at the second `start`. Where no reply stands, it reads once, and
-    /// judges all bytes that came: a whole request is answered at the desk. A request that isn't whole 30,000 milliseconds
-    /// after the exchange began is refused with 408. Then a reply that stands is written as far as the link takes it. It may
+    /// judges all bytes that came: a whole request is answered at the desk. A request that isn't whole `LONGEST_WAIT` after
+    /// the exchange began is refused with 408. Then a reply that stands is written as far as the link takes it. It may
     /// wait where the desk does.
     ///
     /// Where there is no memory the reply is that with 503, and the calls that were made stay made.

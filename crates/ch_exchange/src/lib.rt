@@ -9,6 +9,7 @@
 
 mod exchange;
 mod laws;
+mod limits;
 mod pending;
 mod reading;
 mod replies;
@@ -20,6 +21,7 @@ mod writing;
 
 pub use exchange::Exchange;
 pub use laws::{cuts_leave_no_trace, idle_turns, links_move, meaning_stays, one_reply};
+pub use limits::MOST_READ;
 pub use pending::{After, PendingReply};
 pub use stage::Stage;
 pub use turn::ExTurn;

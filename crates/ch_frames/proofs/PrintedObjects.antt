@@ -8,8 +8,8 @@ use Rattle.ch_base.specs.declared.frame.Frame.{Frame}
 use Rattle.ch_base.specs.declared.frame.Frame.TheVariants.{Opened, Error, Ping, Pong, Succeeded, Present, Added, Removed, Event, Miss, SignedIn, Watch, Kill}
 use Rattle.ch_base.specs.ErrorTexts.{error_text}
 use Rattle.ch_base.specs.Events.{connection_event, channel_event, member_event, bare_event}
-use Rattle.ch_base.specs.PresenceData.{roster, arrival, departure}
-use Rattle.ch_base.specs.Printed.{printed, greeting, presence_word, change}
+use Rattle.ch_base.specs.PresenceData.{roster, member_added_data, member_removed_data}
+use Rattle.ch_base.specs.Printed.{printed, established_data, presence_word, watchlist_change}
 use Rattle.ch_frames.specs.PrintedFrames.{event_name, IsPrintable, IsEventObject}
 use Rattle.ch_frames.proofs.ObjectTexts.{IsValueText, value_text, quoted_text, Field, rest, AreFields, AreOthers, object_text, object_spelled, first_string}
 use Rattle.ch_frames.proofs.ValueTexts.{decimal_text, single_spelled, empty_object}
@@ -116,7 +116,7 @@ change_same : (word user_id : List ℕ) → object_text (codes "events", changes
 unfolding quoted escaped_byte object_text rest
 change_same word user_id = nested (codes "{\"events\":[") (codes "{\"name\":") (quoted word) (codes ",\"user_ids\":[") (quoted user_id) (codes "]") (codes "}")
 
-change_body : (online : Bool) (user_id : List ℕ) → IsValueText 63 (change online user_id)
+change_body : (online : Bool) (user_id : List ℕ) → IsValueText 63 (watchlist_change online user_id)
 change_body online user_id =
     let word : List ℕ = presence_word online in
     let ids = single_spelled 59 (quoted user_id) (quoted_text 59 user_id) in
@@ -128,17 +128,17 @@ change_body online user_id =
 -- ---- all
 
 pub printed_object : (frame : Frame) (start : ℕ) → IsPrintable frame → IsEventObject (printed frame start) (event_name frame)
-printed_object (Opened number) start h = connection_told (codes "pusher:connection_established") (quoted (greeting number start)) (quoted_text 63 (greeting number start))
+printed_object (Opened number) start h = connection_told (codes "pusher:connection_established") (quoted (established_data number start)) (quoted_text 63 (established_data number start))
 printed_object (Error code) start h = connection_told (codes "pusher:error") (error_text_of code) (error_body code h)
 printed_object Ping start h = connection_told (codes "pusher:ping") (codes "{}") empty_object
 printed_object Pong start h = connection_told (codes "pusher:pong") (codes "{}") empty_object
 printed_object (Succeeded channel) start h = channel_told (codes "pusher_internal:subscription_succeeded") channel (quoted (codes "{}")) (quoted_text 63 (codes "{}"))
 printed_object (Present channel rows) start h = channel_told (codes "pusher_internal:subscription_succeeded") channel (quoted (roster rows)) (quoted_text 63 (roster rows))
-printed_object (Added channel member) start h = channel_told (codes "pusher_internal:member_added") channel (quoted (arrival member)) (quoted_text 63 (arrival member))
-printed_object (Removed channel user_id) start h = channel_told (codes "pusher_internal:member_removed") channel (quoted (departure user_id)) (quoted_text 63 (departure user_id))
+printed_object (Added channel member) start h = channel_told (codes "pusher_internal:member_added") channel (quoted (member_added_data member)) (quoted_text 63 (member_added_data member))
+printed_object (Removed channel user_id) start h = channel_told (codes "pusher_internal:member_removed") channel (quoted (member_removed_data user_id)) (quoted_text 63 (member_removed_data user_id))
 printed_object (Event channel event body None) start (v, h) = channel_told event channel body (value_text 63 body v h)
 printed_object (Event channel event body (Some user_id)) start (v, h) = member_told event channel body user_id (value_text 63 body v h)
 printed_object (Miss channel) start h = bare_told (codes "pusher:cache_miss") channel
 printed_object (SignedIn user_data) start h = connection_told (codes "pusher:signin_success") (codes "{\"user_data\":" ++ quoted user_data ++ codes "}") (signed_in_body user_data)
-printed_object (Watch online user_id) start h = connection_told (codes "pusher_internal:watchlist_events") (change online user_id) (change_body online user_id)
+printed_object (Watch online user_id) start h = connection_told (codes "pusher_internal:watchlist_events") (watchlist_change online user_id) (change_body online user_id)
 printed_object Kill start h = connection_told (codes "pusher:error") (error_text_of 4009) (error_body 4009 (omega arith))

@@ -6,7 +6,7 @@ use Rattle.std.proofs.lemmas.Bool.{and_parts}
 use Rattle.std.proofs.lemmas.Bool.Decides.{nat_tests}
 use Rattle.std.proofs.lemmas.Str.{encode_ascii}
 use Rattle.ch_base.specs.Escape.{escape_letter, escaped_byte, escaped, quoted}
-use Rattle.ch_base.specs.JsonText.{is_hex, is_unescaped, is_short, Char, byte, short, unit, spelling, is_char, Chars, String, hex_value, short_value, meaning, Unescapes}
+use Rattle.ch_base.specs.JsonText.{is_hex, is_unescaped, is_short, Char, byte, short, unit, spelling, is_char, Chars, String, hex_value, short_value, char_bytes, Unescapes}
 
 -- ---- one byte
 
@@ -51,7 +51,7 @@ record Stands (x : ℕ) : Type 0 where
   char : Char
   spelled : escaped_byte x ≡ spelling char
   good : is_char char ≡ true
-  means : meaning char ≡ x ∷ []
+  means : char_bytes char ≡ x ∷ []
 
 letter_low : (x : ℕ) → nat_lt 0 (escape_letter x) ≡ true → x < 93
 letter_low x h = grind (arith, nat_tests)
@@ -95,7 +95,7 @@ stands x = test (nat_lt 0 (escape_letter x)) refl (nat_lt x 32) refl
 
 -- ---- a text
 
-chars_of : (xs r : List ℕ) → (cs : List Char) × Chars cs (escaped xs ++ 34 ∷ r) r × (flat_map meaning cs ≡ xs)
+chars_of : (xs r : List ℕ) → (cs : List Char) × Chars cs (escaped xs ++ 34 ∷ r) r × (flat_map char_bytes cs ≡ xs)
 chars_of [] r = ([], refl, refl)
 chars_of (x ∷ xs) r =
     let c = stands x in

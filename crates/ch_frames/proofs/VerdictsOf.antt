@@ -6,34 +6,35 @@ use Rattle.ch_base.specs.JsonTree.{Members}
 use Rattle.ch_base.specs.JsonText.{IsJsonText}
 use Rattle.ch_history.specs.ChannelName.{is_good_name}
 use Rattle.ch_history.specs.Limits.{is_event_name}
+use Rattle.ch_history.specs.UserChannels.{is_subscribable}
 use Rattle.ch_protocol.specs.ObjectMembers.{IsObjectText}
-use Rattle.ch_protocol.specs.ClientMessages.{Verdict, ClientEvent, ping, pong, subscribe, unsubscribe, sign_in, client, unknown, event_of, SubscribeShape, UnsubscribeShape, SignInShape, SayShape, is_subscribable, checked, Shaped, SaysEvent, SaysObject}
+use Rattle.ch_protocol.specs.ClientMessages.{Verdict, ClientEvent, ping, pong, subscribe, unsubscribe, sign_in, client, unknown, event_of, SubscribeShape, UnsubscribeShape, SignInShape, SayShape, checked, Shaped, SaysEvent, SaysObject}
 use Rattle.ch_protocol.specs.declared.client_message.ClientMessage.{ClientMessage}
 use Rattle.ch_protocol.specs.declared.client_message.ClientMessage.TheVariants.{Ping, Pong, Subscribe, Unsubscribe, SignIn, Say}
 use Rattle.ch_frames.specs.declared.refused.Refused.{Refused}
 use Rattle.ch_frames.specs.declared.refused.Refused.TheVariants.{Code, Memory}
 use Rattle.ch_members.specs.Readings.{Gives}
-use Rattle.ch_frames.specs.Verdicts.{Tells, answer_of, judged}
+use Rattle.ch_frames.specs.Verdicts.{HasVerdict, answer_of, answer_of_shape}
 use Rattle.ch_frames.specs.Checked.{IsGoodMessage, IsCode, IsRefusal}
 use Rattle.ch_members.proofs.SpelledValues.{spelled_json}
 
 -- ---- answers
 
-tells_answer : (Q : Verdict → Type 0) (v : Verdict) → Q v → Tells Q (answer_of v)
+tells_answer : (Q : Verdict → Type 0) (v : Verdict) → Q v → HasVerdict Q (answer_of v)
 tells_answer Q (Ok m) h = h
 tells_answer Q (Err c) h = h
 
-pub tells_judged : (P : ClientMessage → Type 0) (o : Option ClientMessage) → Gives P o → Tells (Shaped P) (judged o)
+pub tells_judged : (P : ClientMessage → Type 0) (o : Option ClientMessage) → Gives P o → HasVerdict (Shaped P) (answer_of_shape o)
 tells_judged P None h = inr (h, refl)
 tells_judged P (Some m) h = tells_answer (Shaped P) (checked m) (inl (m, h, refl))
 
-pub tells_as : (Q R : Verdict → Type 0) (r : Result ClientMessage Refused) → ((v : Verdict) → Q v → R v) → Tells Q r → Tells R r
+pub tells_as : (Q R : Verdict → Type 0) (r : Result ClientMessage Refused) → ((v : Verdict) → Q v → R v) → HasVerdict Q r → HasVerdict R r
 tells_as Q R (Ok m) f h = f (Ok m) h
 tells_as Q R (Err (Code c)) f h = f (Err c) h
 tells_as Q R (Err Memory) f h = tt
 
-pub tells_event : (Q : ClientEvent → Verdict → Type 0) (a b : ClientEvent) (o : Option ClientMessage) (r : Result ClientMessage Refused) → a ≡ b → r ≡ judged o → Tells (Q a) (judged o) → Tells (Q b) r
-tells_event Q a b o r e f h = subst (λ (y : ClientEvent). Tells (Q y) r) e (subst (Tells (Q a)) (sym f) h)
+pub tells_event : (Q : ClientEvent → Verdict → Type 0) (a b : ClientEvent) (o : Option ClientMessage) (r : Result ClientMessage Refused) → a ≡ b → r ≡ answer_of_shape o → HasVerdict (Q a) (answer_of_shape o) → HasVerdict (Q b) r
+tells_event Q a b o r e f h = subst (λ (y : ClientEvent). HasVerdict (Q y) r) e (subst (HasVerdict (Q a)) (sym f) h)
 
 -- ---- the codes
 
@@ -75,7 +76,7 @@ object_code : (text : List ℕ) (v : Verdict) → SaysObject text v → IsCodeIf
 object_code text v (inl (ms, name, ev, h)) = event_code (event_of name) name text ms v h
 object_code text v (inr (none, e)) = subst IsCodeIf (sym e) (inl refl)
 
-pub code_of : (text : List ℕ) (r : Result ClientMessage Refused) → Tells (SaysObject text) r → IfErr r IsRefusal
+pub code_of : (text : List ℕ) (r : Result ClientMessage Refused) → HasVerdict (SaysObject text) r → IfErr r IsRefusal
 code_of text (Ok m) h = tt
 code_of text (Err (Code c)) h = object_code text (Err c) h
 code_of text (Err Memory) h = tt
@@ -168,6 +169,6 @@ object_good : (text : List ℕ) (v : Verdict) → SaysObject text v → IsGoodIf
 object_good text v (inl (ms, name, ev, h)) = event_good (event_of name) name text ms v refl ev.spelled h
 object_good text v (inr (none, e)) = subst IsGoodIf (sym e) tt
 
-pub good_of : (text : List ℕ) (r : Result ClientMessage Refused) → Tells (SaysObject text) r → IfOk r IsGoodMessage
+pub good_of : (text : List ℕ) (r : Result ClientMessage Refused) → HasVerdict (SaysObject text) r → IfOk r IsGoodMessage
 good_of text (Ok m) h = object_good text (Ok m) h
 good_of text (Err e) h = tt

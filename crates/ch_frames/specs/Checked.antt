@@ -4,11 +4,11 @@ use Rattle.std.specs.List.{list_all}
 use Rattle.ch_base.specs.JsonText.{IsJsonText}
 use Rattle.ch_history.specs.ChannelName.{is_good_name}
 use Rattle.ch_history.specs.Limits.{is_event_name, is_user_id}
-use Rattle.ch_protocol.specs.ClientMessages.{is_subscribable}
+use Rattle.ch_history.specs.UserChannels.{is_subscribable}
 use Rattle.ch_protocol.specs.declared.client_message.ClientMessage.{ClientMessage}
 use Rattle.ch_protocol.specs.declared.client_message.ClientMessage.TheVariants.{Subscribe, Unsubscribe, Say}
 use Rattle.ch_protocol.specs.declared.client_message.UserData.{UserData}
-use Rattle.ch_protocol.specs.declared.error_codes.TheConstants.{INVALID_CHANNEL_NAME, MALFORMED_MESSAGE, MESSAGE_TOO_LONG, UNKNOWN_EVENT}
+use Rattle.ch_base.specs.declared.error_codes.TheConstants.{INVALID_CHANNEL_NAME, MALFORMED_MESSAGE, MESSAGE_TOO_LONG, UNKNOWN_EVENT}
 use Rattle.ch_frames.specs.declared.refused.Refused.{Refused}
 use Rattle.ch_frames.specs.declared.refused.Refused.TheVariants.{Code, Memory}
 

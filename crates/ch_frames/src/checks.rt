@@ -1,18 +1,11 @@
 //! The names and lengths of a message.
 ghost use Rattle.std.specs.Prelude.{◌≡◌};
-ghost use Rattle.ch_history.specs.ChannelName.{is_good_name};
-ghost use Rattle.ch_protocol.specs.UserChannels.{is_user_channel};
-ghost use Rattle.ch_protocol.specs.ClientMessages.{is_subscribable, checked};
+ghost use Rattle.ch_protocol.specs.ClientMessages.{checked};
 ghost use Rattle.ch_frames.specs.Verdicts.{verdict_of, say_fault, subscribable_fault};
 
-use ch_base::Text;
-use ch_names::{kind, user_id};
-use ch_protocol::{
-    ClientMessage, INVALID_CHANNEL_NAME, LONGEST_BODY, LONGEST_EVENT, MESSAGE_TOO_LONG,
-};
-
-/// What stands before the user's id in the name of a user's own channel.
-const USER_PREFIX: &str = "#server-to-user-";
+use ch_base::{INVALID_CHANNEL_NAME, MESSAGE_TOO_LONG, Text};
+use ch_names::{is_good_name, is_subscribable};
+use ch_protocol::{ClientMessage, LONGEST_BODY, LONGEST_EVENT};
 
 /// The code of a message's first fault: that its channel's name isn't good, or that its event or its body
 /// is too long.
@@ -50,26 +43,5 @@ fn say_fault(channel: &Text, event: &Text, body: &Text) -> Option<u16>
         Some(MESSAGE_TOO_LONG)
     } else {
         None
-    }
-}
-
-fn is_subscribable(channel: &str) -> bool
-    ensures { result ≡ is_subscribable channel.now }
-{
-    is_good_name(channel) || is_user_channel(channel)
-}
-
-fn is_good_name(name: &str) -> bool
-    ensures { result ≡ is_good_name name.now }
-{
-    kind(name).is_ok()
-}
-
-fn is_user_channel(name: &str) -> bool
-    ensures { result ≡ is_user_channel name.now }
-{
-    match name.strip_prefix(USER_PREFIX) {
-        Some(id) => user_id(id).is_ok(),
-        None => false,
     }
 }

@@ -1,7 +1,7 @@
 //! The events that clients send.
 ghost use Rattle.std.specs.Prelude.{◌≡◌};
 ghost use Rattle.ch_protocol.specs.ClientMessages.{event_of};
-ghost use Rattle.ch_frames.specs.Verdicts.{meaning};
+ghost use Rattle.ch_frames.specs.Verdicts.{as_client_event};
 
 /// What the name of an event says of it.
 #[derive(Clone, Copy, Debug, PartialEq, Eq)]
@@ -17,7 +17,7 @@ pub enum Event {
 
 /// The event of this name.
 pub fn event_of(name: &str) -> Event
-    ensures { meaning result ≡ event_of name.now }
+    ensures { as_client_event result ≡ event_of name.now }
 {
     if name == "pusher:ping" {
         Event::Ping

@@ -6,7 +6,7 @@ ghost use Rattle.ch_protocol.specs.ChannelData.{is_whole};
 ghost use Rattle.ch_frames.specs.Ids.{good_id, good_ids, whole_id, is_point_or_e};
 
 use ch_base::{Text, TextList};
-use ch_names::user_id;
+use ch_names::is_user_id;
 
 /// The id where it is a good user id.
 pub fn good_id(id: Text) -> Option<Text>
@@ -35,7 +35,7 @@ fn are_good(ids: &[Text]) -> bool
 fn is_good(id: &Text) -> bool
     ensures { result ≡ is_user_id id.now }
 {
-    user_id(id.as_str()).is_ok()
+    is_user_id(id.as_str())
 }
 
 /// The number where it is whole and, as it is spelled, a good user id.

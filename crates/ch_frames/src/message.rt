@@ -4,19 +4,17 @@ ghost use Rattle.ch_base.specs.JsonTree.{Members};
 ghost use Rattle.ch_json.specs.NodeOf.{IsObject};
 ghost use Rattle.ch_protocol.specs.ClientMessages.{Says, SaysObject, SaysEvent, event_of};
 ghost use Rattle.ch_members.specs.Readings.{IsObjectOf, IsObjectDoc};
-ghost use Rattle.ch_frames.specs.Verdicts.{Tells, judged};
+ghost use Rattle.ch_frames.specs.Verdicts.{HasVerdict, answer_of_shape};
 ghost use Rattle.ch_frames.specs.Checked.{IsGoodMessage, IsRefusal};
 
 use crate::checks::fault_of;
 use crate::client_event::{Event, event_of};
 use crate::refused::Refused;
 use crate::shapes::{say, sign_in, subscribe, unsubscribe};
-use ch_base::Text;
+use ch_base::{MALFORMED_MESSAGE, MESSAGE_TOO_LONG, Text, UNKNOWN_EVENT};
 use ch_json::{Doc, Node};
 use ch_members::{object_of, string_member};
-use ch_protocol::{
-    ClientMessage, LONGEST_TEXT, MALFORMED_MESSAGE, MESSAGE_TOO_LONG, UNKNOWN_EVENT,
-};
+use ch_protocol::{ClientMessage, LONGEST_TEXT};
 use std::alloc::Global;
 
 /// The message of a client's text, or the code of its first fault (Pusher Channels protocol, "Events
@@ -28,7 +26,7 @@ use std::alloc::Global;
 /// subscribed to is `INVALID_CHANNEL_NAME`; a client event with a name above `LONGEST_EVENT` or `data` above
 /// `LONGEST_BODY` is `MESSAGE_TOO_LONG`.
 pub fn parse(alloc: Global, text: &str) -> Result<ClientMessage, Refused>
-    ensures says { Tells (Says text.now) result }
+    ensures says { HasVerdict (Says text.now) result }
     ensures code { IfErr result IsRefusal }
     ensures good { IfOk result IsGoodMessage }
 {
@@ -39,7 +37,7 @@ pub fn parse(alloc: Global, text: &str) -> Result<ClientMessage, Refused>
 }
 
 fn said(alloc: Global, text: &str) -> Result<ClientMessage, Refused>
-    ensures { Tells (SaysObject text.now) result }
+    ensures { HasVerdict (SaysObject text.now) result }
 {
     match object_of(alloc, text)? {
         None => Err(Refused::Code(MALFORMED_MESSAGE)),
@@ -49,7 +47,7 @@ fn said(alloc: Global, text: &str) -> Result<ClientMessage, Refused>
 
 fn said_by_object(alloc: Global, text: &str, doc: &Doc) -> Result<ClientMessage, Refused>
     requires { IsObjectDoc text.now doc.now }
-    ensures { Tells (SaysObject text.now) result }
+    ensures { HasVerdict (SaysObject text.now) result }
 {
     let top = doc.top();
     match string_member(alloc, text, doc, top, "event")? {
@@ -67,7 +65,7 @@ fn said_by_event(
 ) -> Result<ClientMessage, Refused>
     requires { IsObject text.now doc.now node }
     ensures { (ms : Members) → IsObjectOf text.now doc.now node ms →
-        Tells (SaysEvent (event_of name) name text.now ms) result }
+        HasVerdict (SaysEvent (event_of name) name text.now ms) result }
 {
     match event_of(name.as_str()) {
         Event::Ping => Ok(ClientMessage::Ping),
@@ -82,7 +80,7 @@ fn said_by_event(
 
 /// The message of the event's shape, where its names and lengths are good.
 fn judged(shape: Option<ClientMessage>) -> Result<ClientMessage, Refused>
-    ensures { result ≡ judged shape }
+    ensures { result ≡ answer_of_shape shape }
 {
     let Some(message) = shape else {
         return Err(Refused::Code(MALFORMED_MESSAGE));

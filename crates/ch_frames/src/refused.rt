@@ -5,7 +5,7 @@ use ch_base::Memory;
 #[derive(Clone, Copy, Debug, PartialEq, Eq)]
 pub enum Refused {
     /// The code of its first fault: `MALFORMED_MESSAGE`, `UNKNOWN_EVENT`, `INVALID_CHANNEL_NAME` or
-    /// `MESSAGE_TOO_LONG` of `ch_protocol`.
+    /// `MESSAGE_TOO_LONG` of `ch_base`.
     Code(u16),
     /// Want of memory.
     Memory,

@@ -15,7 +15,7 @@ use Rattle.ch_history.specs.declared.rows.Subscription.{Subscription}
 use Rattle.ch_history.specs.declared.rows.Cached.{Cached}
 use Rattle.ch_history.specs.Entries.{ChanEntry, ChanHistory}
 use Rattle.ch_history.specs.ChannelName.{is_cache}
-use Rattle.ch_history.specs.Subscriptions.{is_joined, opened, settles, subscriptions, subs, on, channels_of}
+use Rattle.ch_history.specs.Subscriptions.{is_joined, opened_by, settles, subscriptions, subs, on, channels_of}
 use Rattle.ch_history.specs.Presence.{has_user, user_in}
 use Rattle.ch_history.specs.Cache.{latest}
 use Rattle.ch_history.specs.Frames.{is_gone, is_said}
@@ -73,7 +73,7 @@ about-missed c d kept =
 -- The calls
 
 -- a call that opens no subscription and settles none
-quiet : (h : ChanHistory) (e : ChanEntry) (c : List ℕ) → opened e ≡ None → ((s : Subscription) → settles s e ≡ false) → about c (events_at h e) ≡ [] → Change h e c
+quiet : (h : ChanHistory) (e : ChanEntry) (c : List ℕ) → opened_by e ≡ None → ((s : Subscription) → settles s e ≡ false) → about c (events_at h e) ≡ [] → Change h e c
 quiet h e c nothing none silent =
     same (subs-same h e c nothing (none_settled settles (subs h c) e none)) silent
 

@@ -7,7 +7,7 @@ use Rattle.ch_base.specs.declared.channel.ChanCall.TheVariants.{Join}
 use Rattle.ch_history.specs.declared.rows.Subscription.{Subscription}
 use Rattle.ch_history.specs.Entries.{ChanEntry, ChanHistory}
 use Rattle.ch_history.specs.ChannelName.{is_presence}
-use Rattle.ch_history.specs.Subscriptions.{is_joined, asked_by, opened, subscriptions, subs, on_channel}
+use Rattle.ch_history.specs.Subscriptions.{is_joined, asked_by, opened_by, subscriptions, subs, on_channel}
 use Rattle.ch_history.specs.Presence.{user_in}
 use Rattle.ch_history.specs.WellFormed.{IsMemberOf, IsWellFormed}
 use Rattle.ch_history.specs.Legal.{IsLegal}
@@ -25,7 +25,7 @@ asked_has w (Join socket c m at) formed =
     All-cons HasItsMember (record { channel = c; socket = socket; owner = w; member = m }) [] formed.3 (All-nil HasItsMember)
 asked_has w _ formed = All-nil HasItsMember
 
-opened_has : (e : ChanEntry) → IsWellFormed e.call → All HasItsMember (option_to_list (opened e))
+opened_has : (e : ChanEntry) → IsWellFormed e.call → All HasItsMember (option_to_list (opened_by e))
 opened_has e formed =
     elim (is_joined e.answer) as (λ b. All HasItsMember (option_to_list (cond b (asked_by e.caller e.call) None))) [
       | true ↦ asked_has e.caller e.call formed
@@ -36,7 +36,7 @@ pub members_fit : (h : ChanHistory) → IsLegal h → All HasItsMember (subscrip
 members_fit h legal =
     legal_induction (λ g. All HasItsMember (subscriptions g)) (All-nil HasItsMember)
     (λ g e ok follows all. subst (All HasItsMember) (sym (subscriptions-push g e))
-    (All-append HasItsMember (filter (stays e) (subscriptions g)) (option_to_list (opened e))
+    (All-append HasItsMember (filter (stays e) (subscriptions g)) (option_to_list (opened_by e))
     (All-filter (stays e) HasItsMember (subscriptions g) all) (opened_has e follows.formed))) h legal
 
 -- Where a channel has no members

@@ -3,7 +3,7 @@ use Rattle.std.proofs.Common.{◌≡◌, ℕ, true, false, cond, List, [], ◌�
 use Rattle.ch_history.specs.declared.rows.Cached.{Cached}
 use Rattle.ch_history.specs.Entries.{ChanEntry, ChanHistory}
 use Rattle.ch_history.specs.ChannelName.{is_cache}
-use Rattle.ch_history.specs.Subscriptions.{opened, settles, subscriptions, subs_after}
+use Rattle.ch_history.specs.Subscriptions.{opened_by, settles, subscriptions, subs_after}
 use Rattle.ch_history.specs.Clock.{clock_with, clock_after, clock}
 use Rattle.ch_history.specs.Cache.{published, latter, last_published, lasting, renewed, latest_at}
 use Rattle.ch_history.specs.Deliveries.{for_owner}
@@ -15,7 +15,7 @@ use Rattle.ch_history.proofs.Steps.{open_rows-push, gathered-push, folded-push}
 
 -- the subscriptions that the entry leaves open, and then the one that it opens
 pub subscriptions-push : (h : ChanHistory) (e : ChanEntry) → subscriptions (h ++ e ∷ []) ≡ subs_after (subscriptions h) e
-subscriptions-push h e = open_rows-push opened settles h e
+subscriptions-push h e = open_rows-push opened_by settles h e
 
 -- the clock with the entry's call
 pub clock-push : (h : ChanHistory) (e : ChanEntry) → clock (h ++ e ∷ []) ≡ clock_with (clock h) e.call

@@ -8,7 +8,7 @@ use Rattle.ch_base.specs.declared.channel.ChanAnswer.{ChanAnswer}
 use Rattle.ch_base.specs.declared.channel.ChanAnswer.TheVariants.{Joined, Already, Crowded}
 use Rattle.ch_history.specs.declared.rows.Subscription.{Subscription}
 use Rattle.ch_history.specs.Entries.{ChanEntry, ChanHistory}
-use Rattle.ch_history.specs.Subscriptions.{is_joined, opened, settles, subscriptions, subs, on, on_channel}
+use Rattle.ch_history.specs.Subscriptions.{is_joined, opened_by, settles, subscriptions, subs, on, on_channel}
 use Rattle.ch_history.specs.Answers.{answer_of, is_crowded}
 use Rattle.ch_history.specs.Legal.{IsLegal}
 use Rattle.ch_history.proofs.Lists.{list_any-part, filter-none, filter-weaker}
@@ -30,18 +30,18 @@ channel_of s = s.channel
 
 -- One channel after one more entry
 
-pub subs-push : (h : ChanHistory) (e : ChanEntry) (c : List ℕ) → subs (h ++ e ∷ []) c ≡ filter (stays e) (subs h c) ++ on_channel (option_to_list (opened e)) c
-subs-push h e c = ap (λ xs. on_channel xs c) (subscriptions-push h e) ∙ named-after socket_of channel_of opened settles (subscriptions h) e c
+pub subs-push : (h : ChanHistory) (e : ChanEntry) (c : List ℕ) → subs (h ++ e ∷ []) c ≡ filter (stays e) (subs h c) ++ on_channel (option_to_list (opened_by e)) c
+subs-push h e c = ap (λ xs. on_channel xs c) (subscriptions-push h e) ∙ named-after socket_of channel_of opened_by settles (subscriptions h) e c
 
 -- an entry that opens nothing
-pub subs-left : (h : ChanHistory) (e : ChanEntry) (c : List ℕ) → opened e ≡ None → subs (h ++ e ∷ []) c ≡ filter (stays e) (subs h c)
+pub subs-left : (h : ChanHistory) (e : ChanEntry) (c : List ℕ) → opened_by e ≡ None → subs (h ++ e ∷ []) c ≡ filter (stays e) (subs h c)
 subs-left h e c nothing =
     subs-push h e c
     ∙ ap (λ o. filter (stays e) (subs h c) ++ on_channel (option_to_list o) c) nothing
     ∙ append-nil (filter (stays e) (subs h c))
 
 -- an entry that opens nothing and settles nothing of the channel
-pub subs-same : (h : ChanHistory) (e : ChanEntry) (c : List ℕ) → opened e ≡ None → list_any (λ s. settles s e) (subs h c) ≡ false → subs (h ++ e ∷ []) c ≡ subs h c
+pub subs-same : (h : ChanHistory) (e : ChanEntry) (c : List ℕ) → opened_by e ≡ None → list_any (λ s. settles s e) (subs h c) ≡ false → subs (h ++ e ∷ []) c ≡ subs h c
 subs-same h e c nothing none = subs-left h e c nothing ∙ filter-none (λ s. settles s e) (subs h c) none
 
 -- where the socket isn't on d, no subscription of the channel c is its own one to d
@@ -55,7 +55,7 @@ and-false true = refl
 and-false false = refl
 
 -- where the entry settles only the socket's own subscription to d, other channels stay
-pub other_channel : (h : ChanHistory) (e : ChanEntry) (socket : ℕ) (d c : List ℕ) → opened e ≡ None → ((s : Subscription) → settles s e ≡ ((s.socket == socket) && bytes_eq s.channel d)) → bytes_eq d c ≡ false → subs (h ++ e ∷ []) c ≡ subs h c
+pub other_channel : (h : ChanHistory) (e : ChanEntry) (socket : ℕ) (d c : List ℕ) → opened_by e ≡ None → ((s : Subscription) → settles s e ≡ ((s.socket == socket) && bytes_eq s.channel d)) → bytes_eq d c ≡ false → subs (h ++ e ∷ []) c ≡ subs h c
 other_channel h e socket d c nothing own differs =
     subs-left h e c nothing
     ∙ filter-weaker (stays e) (λ s. bytes_eq s.channel c) (subscriptions h) (λ s here.
@@ -69,9 +69,9 @@ abbrev pub AreApart : List Subscription → Type 0
 AreApart xs = AreDistinct socket_of channel_of xs
 
 -- an entry that opens nothing
-closes : (h : ChanHistory) (e : ChanEntry) → opened e ≡ None → AreApart (subscriptions h) → AreApart (subscriptions (h ++ e ∷ []))
+closes : (h : ChanHistory) (e : ChanEntry) → opened_by e ≡ None → AreApart (subscriptions h) → AreApart (subscriptions (h ++ e ∷ []))
 closes h e nothing apart =
-    subst AreApart (sym (subscriptions-push h e)) (AreDistinct-less socket_of channel_of opened settles (subscriptions h) e nothing apart)
+    subst AreApart (sym (subscriptions-push h e)) (AreDistinct-less socket_of channel_of opened_by settles (subscriptions h) e nothing apart)
 
 stays_apart : (h : ChanHistory) (w : ℕ) (call : ChanCall) (a : ChanAnswer) → a ≡ answer_of h w call → AreApart (subscriptions h) → AreApart (subscriptions (h ++ entry w call a ∷ []))
 stays_apart h w (Join socket c m at) a answered apart =
@@ -83,7 +83,7 @@ stays_apart h w (Join socket c m at) a answered apart =
         | false ↦
             let e : ChanEntry = entry w (Join socket c m at) Joined in
             let n : Subscription = record { channel = c; socket = socket; owner = w; member = m } in
-            subst AreApart (sym (subscriptions-push h e)) (AreDistinct-more socket_of channel_of opened settles (subscriptions h) e n refl off apart)
+            subst AreApart (sym (subscriptions-push h e)) (AreDistinct-more socket_of channel_of opened_by settles (subscriptions h) e n refl off apart)
       ])
     ]) refl)
 stays_apart h w (Leave socket c at) a answered apart = closes h (entry w (Leave socket c at) a) (opens_nothing (is_joined a)) apart

@@ -17,7 +17,7 @@ use Rattle.ch_history.specs.Entries.{UserEntry, UserHistory}
 use Rattle.ch_history.specs.Steps.{gathered_from}
 use Rattle.ch_history.specs.OpenRows.{is_empty}
 use Rattle.ch_history.specs.Deliveries.{delivery}
-use Rattle.ch_history.specs.SignIns.{is_signed_in, is_watching, user_socket, signs_in, sign_settles, sign_ins, begins_watch, watch_settles, watches, of_user, is_of, users_of, has_any, watching, online}
+use Rattle.ch_history.specs.SignIns.{is_signed_in, is_watching, user_socket, signs_in, sign_settles, sign_ins, begins_watch, watch_settles, watches, of_user, has_one_of, users_of, has_any, watching, online}
 use Rattle.ch_history.specs.UserFrames.{to_socket, tell_watchers, user_channel, user_frames}
 use Rattle.ch_history.specs.UserAnswers.{user_answer_of}
 use Rattle.ch_history.specs.UserLegal.{IsUserLegal}
@@ -72,7 +72,7 @@ told-other socket user v b signs seen differs =
     ]
 
 -- what a watcher of the user is told: the one thing, once
-told-own : (socket : ℕ) (user : List ℕ) (b : Bool) (signs seen : List UserSocket) → AreApart seen → is_of seen socket user ≡ true → marks socket user (tell_watchers b signs seen user) ≡ cond (has_any signs user) [] (b ∷ [])
+told-own : (socket : ℕ) (user : List ℕ) (b : Bool) (signs seen : List UserSocket) → AreApart seen → has_one_of seen socket user ≡ true → marks socket user (tell_watchers b signs seen user) ≡ cond (has_any signs user) [] (b ∷ [])
 told-own socket user b signs seen apart there =
     elim (has_any signs user) as (λ t. marks socket user (cond t [] (map (to_socket (frame.Watch b user)) (of_user seen user))) ≡ cond t [] (b ∷ [])) [
       | true ↦ refl
@@ -111,12 +111,12 @@ quiet h e socket user on no_sign none_signed no_watch none_watched silent so_far
     let signs : sign_ins (h ++ e ∷ []) ≡ sign_ins h = sign_ins-push h e ∙ rows-same signs_in sign_settles (sign_ins h) e no_sign (none_settled sign_settles (sign_ins h) e none_signed) in
     let seen : watches (h ++ e ∷ []) ≡ watches h = watches-push h e ∙ rows-same begins_watch watch_settles (watches h) e no_watch (none_settled watch_settles (watches h) e none_watched) in
     goes_on h e socket user on so_far (λ there. (
-      ap (λ xs. is_of xs socket user) (sym seen) ∙ there,
+      ap (λ xs. has_one_of xs socket user) (sym seen) ∙ there,
       Goes-same (online h user) (online (h ++ e ∷ []) user) (online h user) (online h user) (marks socket user (user_frames h e)) [] refl (ap (λ xs. has_any xs user) signs) silent (Goes-nowhere (online h user)),
     ))
 
 -- a sign-in as v
-signs : (h : UserHistory) (w x : ℕ) (v : List ℕ) (at : ℕ) (socket : ℕ) (user : List ℕ) → AreApart (watches h) → is_of (sign_ins h) x v ≡ false → WatchAlternates h socket user → WatchAlternates (h ++ entry w (SignIn x v at) SignedIn ∷ []) socket user
+signs : (h : UserHistory) (w x : ℕ) (v : List ℕ) (at : ℕ) (socket : ℕ) (user : List ℕ) → AreApart (watches h) → has_one_of (sign_ins h) x v ≡ false → WatchAlternates h socket user → WatchAlternates (h ++ entry w (SignIn x v at) SignedIn ∷ []) socket user
 signs h w x v at socket user apart off so_far =
     let e : UserEntry = entry w (SignIn x v at) SignedIn in
     let k : UserHistory = h ++ e ∷ [] in
@@ -129,7 +129,7 @@ signs h w x v at socket user apart off so_far =
     ∙ named-after socket_of user_of signs_in sign_settles (sign_ins h) e user
     ∙ ap (λ xs. xs ++ cond (bytes_eq v user) (n ∷ []) []) (filter-none (λ r. sign_settles r e) (of_user (sign_ins h) user) kept) in
     goes_on h e socket user refl so_far (λ there.
-    let was : watching h socket user ≡ true = ap (λ xs. is_of xs socket user) (sym seen) ∙ there in (
+    let was : watching h socket user ≡ true = ap (λ xs. has_one_of xs socket user) (sym seen) ∙ there in (
       was,
       (elim (bytes_eq v user) as (λ b. bytes_eq v user ≡ b → of_user (sign_ins k) user ≡ of_user (sign_ins h) user ++ cond b (n ∷ []) [] → Goes (online h user) (online k user) (marks socket user (user_frames h e))) [
         | true ↦ (λ is after.
@@ -163,7 +163,7 @@ from_watch false true now b was so_far made all is said goes same there = and_on
 from_watch false false now b was so_far made all is said goes same there = and_on now b was so_far made all is said goes there
 
 -- a watch of v by x
-looks : (h : UserHistory) (w x : ℕ) (v : List ℕ) (at : ℕ) (socket : ℕ) (user : List ℕ) → is_of (watches h) x v ≡ false → WatchAlternates h socket user → WatchAlternates (h ++ entry w (Watch x v at) Watching ∷ []) socket user
+looks : (h : UserHistory) (w x : ℕ) (v : List ℕ) (at : ℕ) (socket : ℕ) (user : List ℕ) → has_one_of (watches h) x v ≡ false → WatchAlternates h socket user → WatchAlternates (h ++ entry w (Watch x v at) Watching ∷ []) socket user
 looks h w x v at socket user off so_far =
     let e : UserEntry = entry w (Watch x v at) Watching in
     let k : UserHistory = h ++ e ∷ [] in
@@ -219,13 +219,13 @@ loses h w x at a socket user apart so_far =
     watches-push h e ∙ ap (λ o. filter gone (watches h) ++ option_to_list o) (opens_nothing (is_watching a)) ∙ append-nil (filter gone (watches h)) in
     let of_one : List ℕ → List Bool = λ v. marks socket user (tell_watchers false (sign_ins k) (watches k) v) in
     let its : List (List ℕ) = map user_of (filter (λ r. r.socket == x) (sign_ins h)) in
-    let was_in = is_of (sign_ins h) x user in
+    let was_in = has_one_of (sign_ins h) x user in
     let told : marks socket user (user_frames h e) ≡ cond was_in (of_one user) [] =
     filter_map-flat_map (tells socket user) (tell_watchers false (sign_ins k) (watches k)) (users_of (sign_ins h) x)
     ∙ flat_map-ascending of_one user (λ v differs. told-other socket user v false (sign_ins k) (watches k) differs) its
     ∙ ap (λ b. cond b (of_one user) []) (in_names socket_of user_of (sign_ins h) x user) in
     goes_on h e socket user refl so_far (λ there.
-    let was : watching h socket user ≡ true = among_more (λ r. r.socket == socket) gone user (watches h) (ap (λ xs. is_of xs socket user) (sym seen) ∙ there) in
+    let was : watching h socket user ≡ true = among_more (λ r. r.socket == socket) gone user (watches h) (ap (λ xs. has_one_of xs socket user) (sym seen) ∙ there) in
     let own : of_one user ≡ cond (online k user) [] (false ∷ []) = told-own socket user false (sign_ins k) (watches k) apart there in (
       was,
       (elim was_in as (λ b. was_in ≡ b → marks socket user (user_frames h e) ≡ cond b (of_one user) [] → Goes (online h user) (online k user) (marks socket user (user_frames h e))) [
@@ -242,13 +242,13 @@ loses h w x at a socket user apart so_far =
 tells_on : (h : UserHistory) (w : ℕ) (call : UserCall) (a : UserAnswer) (socket : ℕ) (user : List ℕ) → a ≡ user_answer_of h w call → IsUserLegal h → AreApart (watches (h ++ entry w call a ∷ [])) → WatchAlternates h socket user → WatchAlternates (h ++ entry w call a ∷ []) socket user
 tells_on h w (SignIn x v at) a socket user answered legal apart so_far =
     let P : UserAnswer → Type 0 = λ a. WatchAlternates (h ++ entry w (SignIn x v at) a ∷ []) socket user in
-    subst P (sym answered) ((elim (is_of (sign_ins h) x v) as (λ b. is_of (sign_ins h) x v ≡ b → P (cond b AlreadyIn SignedIn)) [
+    subst P (sym answered) ((elim (has_one_of (sign_ins h) x v) as (λ b. has_one_of (sign_ins h) x v ≡ b → P (cond b AlreadyIn SignedIn)) [
       | true ↦ (λ is_in. quiet h (entry w (SignIn x v at) AlreadyIn) socket user refl refl (λ r. refl) refl (λ r. refl) refl so_far)
       | false ↦ (λ off. signs h w x v at socket user (watches_apart h legal) off so_far)
     ]) refl)
 tells_on h w (Watch x v at) a socket user answered legal apart so_far =
     let P : UserAnswer → Type 0 = λ a. WatchAlternates (h ++ entry w (Watch x v at) a ∷ []) socket user in
-    subst P (sym answered) ((elim (is_of (watches h) x v) as (λ b. is_of (watches h) x v ≡ b → P (cond b AlreadyWatching Watching)) [
+    subst P (sym answered) ((elim (has_one_of (watches h) x v) as (λ b. has_one_of (watches h) x v ≡ b → P (cond b AlreadyWatching Watching)) [
       | true ↦ (λ there. quiet h (entry w (Watch x v at) AlreadyWatching) socket user refl refl (λ r. refl) refl (λ r. refl) refl so_far)
       | false ↦ (λ off. looks h w x v at socket user off so_far)
     ]) refl)

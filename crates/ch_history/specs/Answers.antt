@@ -13,7 +13,7 @@ use Rattle.ch_history.specs.declared.rows.Subscription.{Subscription}
 use Rattle.ch_history.specs.Entries.{ChanHistory}
 use Rattle.ch_history.specs.Texts.{ascending}
 use Rattle.ch_history.specs.ChannelName.{is_presence, begins}
-use Rattle.ch_history.specs.Limits.{max_users}
+use Rattle.ch_history.specs.declared.limits.TheConstants.{MAX_USERS}
 use Rattle.ch_history.specs.Subscriptions.{subscriptions, on_channel, is_on, channels_in}
 use Rattle.ch_history.specs.Presence.{users_in, has_user}
 use Rattle.ch_history.specs.Cache.{latest_row}
@@ -23,7 +23,7 @@ use Rattle.ch_history.specs.Pending.{pending}
 -- whether the presence channel is full and the member is none of its users; xs: its subscriptions
 abbrev pub is_crowded : List ℕ → List Subscription → Option Member → Bool
 is_crowded c xs None = false
-is_crowded c xs (Some m) = is_presence c && not (has_user c xs m.user_id) && nat_le max_users (length (users_in c xs))
+is_crowded c xs (Some m) = is_presence c && not (has_user c xs m.user_id) && nat_le MAX_USERS (length (users_in c xs))
 
 -- the channel c with its counts
 abbrev pub row_in : List Subscription → List ℕ → NameRow

@@ -2,6 +2,7 @@
 -- "Channel naming conventions" and the pages of the channel types).
 use Rattle.std.specs.Prelude.{ℕ, Bool, true, false, ◌&&◌, ◌||◌, List, length, nat_eq, nat_le, codes, if◌then◌else◌}
 use Rattle.std.specs.List.{list_any, list_all, starts_with}
+use Rattle.ch_history.specs.declared.limits.TheConstants.{MAX_NAME}
 
 -- the eight kinds of channel
 pub data Kind : Type 0 where
@@ -72,6 +73,6 @@ is_name_byte x =
     (nat_le 65 x && nat_le x 90) || (nat_le 97 x && nat_le x 122) || (nat_le 48 x && nat_le x 57)
     || list_any (nat_eq x) (codes "_-=@,.;")
 
--- 1 to 200 bytes of the alphabet
+-- 1 to `MAX_NAME` bytes of the alphabet
 abbrev pub is_good_name : List ℕ → Bool
-is_good_name name = nat_le 1 (length name) && nat_le (length name) 200 && list_all is_name_byte name
+is_good_name name = nat_le 1 (length name) && nat_le (length name) MAX_NAME && list_all is_name_byte name

@@ -36,22 +36,22 @@ welcome c after kept s =
     ∷ (if is_cache c then to (latest_frame c kept) s ∷ [] else [])
 
 -- where the member is a new user of c, each subscription before hears of it
-abbrev pub arrival : List ℕ → List Subscription → Option Member → List Delivery
-arrival c before None = []
-arrival c before (Some m) = if has_user c before m.user_id then [] else map (to (Added c m)) before
+abbrev pub member_added_frames : List ℕ → List Subscription → Option Member → List Delivery
+member_added_frames c before None = []
+member_added_frames c before (Some m) = if has_user c before m.user_id then [] else map (to (Added c m)) before
 
 -- whether the user was there before and is not after
 abbrev pub is_gone : List ℕ → List Subscription → List Subscription → List ℕ → Bool
 is_gone c before after id = has_user c before id && not (has_user c after id)
 
 -- where this user is gone from c, each subscription that is left hears of it
-abbrev pub departure_of : List ℕ → List Subscription → List Subscription → Option (List ℕ) → List Delivery
-departure_of c before after None = []
-departure_of c before after (Some id) = if is_gone c before after id then map (to (Removed c id)) after else []
+abbrev pub member_removed_of : List ℕ → List Subscription → List Subscription → Option (List ℕ) → List Delivery
+member_removed_of c before after None = []
+member_removed_of c before after (Some id) = if is_gone c before after id then map (to (Removed c id)) after else []
 
 -- the same of the user of the socket that left c
-abbrev pub departure : List ℕ → List Subscription → List Subscription → ℕ → List Delivery
-departure c before after socket = departure_of c before after (user_in before socket)
+abbrev pub member_removed_frames : List ℕ → List Subscription → List Subscription → ℕ → List Delivery
+member_removed_frames c before after socket = member_removed_of c before after (user_in before socket)
 
 -- the event for each subscription whose socket passes
 abbrev pub broadcast : List ℕ → List ℕ → List ℕ → Option (List ℕ) → (ℕ → Bool) → List Subscription → List Delivery
@@ -77,12 +77,12 @@ abbrev pub frames_by : List Subscription → List Subscription → (List ℕ →
 frames_by before after kept caller answer (Join socket c member at) =
     if is_joined answer
     then welcome c (on_channel after c) (kept c) (record { channel = c; socket = socket; owner = caller; member = member })
-    ++ arrival c (on_channel before c) member
+    ++ member_added_frames c (on_channel before c) member
     else []
 frames_by before after kept caller answer (Leave socket c at) =
-    if is_left answer then departure c (on_channel before c) (on_channel after c) socket else []
+    if is_left answer then member_removed_frames c (on_channel before c) (on_channel after c) socket else []
 frames_by before after kept caller answer (Lost socket at) =
-    flat_map (λ c. departure c (on_channel before c) (on_channel after c) socket) (channels_in before socket)
+    flat_map (λ c. member_removed_frames c (on_channel before c) (on_channel after c) socket) (channels_in before socket)
 frames_by before after kept caller answer (Publish c event body except at) =
     broadcast c event body None (is_other except) (on_channel before c)
 frames_by before after kept caller answer (Say socket c event body at) =

@@ -102,13 +102,13 @@ tells_latest (Miss channel) = true
 tells_latest _ = false
 
 -- the events and cache misses among the frames that are for the socket
-abbrev pub told : ℕ → List Delivery → List Delivery
-told socket made = filter (λ d. (d.item.socket == socket) && tells_latest d.item.frame) made
+abbrev pub newcomer_frames : ℕ → List Delivery → List Delivery
+newcomer_frames socket made = filter (λ d. (d.item.socket == socket) && tells_latest d.item.frame) made
 
 -- a Join of a cache channel that is answered Joined makes exactly one of Event and Miss for the newcomer
 abbrev pub GreetsBy : ChanHistory → ChanEntry → ChanCall → Type 0
 GreetsBy h e (Join socket c member at) =
-    IsTrue (is_joined e.answer && is_cache c) → length (told socket (frames h e)) ≡ 1
+    IsTrue (is_joined e.answer && is_cache c) → length (newcomer_frames socket (frames h e)) ≡ 1
 GreetsBy h e _ = Unit {0}
 
 -- the same of an entry

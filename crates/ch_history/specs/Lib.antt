@@ -1,6 +1,7 @@
 pub mod Steps
 pub mod OpenRows
 pub mod Entries
+pub mod Letters
 pub mod Clock
 pub mod Texts
 pub mod ChannelName
@@ -19,6 +20,7 @@ pub mod Legal
 pub mod Laws
 pub mod SignIns
 pub mod UserFrames
+pub mod UserChannels
 pub mod UserAnswers
 pub mod AnswerKinds
 pub mod Alone

@@ -1,7 +1,8 @@
 -- Channel names, with the kind that each has, and the shards of some names.
 use Rattle.std.specs.Prelude.{◌≡◌, true, false, [], codes}
 use Rattle.ch_history.specs.ChannelName.{Public, Private, Presence, Encrypted, Cache, PrivateCache, PresenceCache, EncryptedCache, kind_of, is_good_name}
-use Rattle.ch_history.specs.Placement.{fnv_offset, fnv_from, shard_of}
+use Rattle.ch_history.specs.Placement.{fnv_from, shard_of}
+use Rattle.ch_history.specs.declared.limits.TheConstants.{FNV_OFFSET}
 
 -- each kind, by the beginning of the name; the rest may be empty
 pub record KindExamples : Type 0 where
@@ -24,8 +25,8 @@ pub record NameExamples : Type 0 where
 
 -- the test values of the FNV draft, and the shards that follow from them
 pub record PlaceExamples : Type 0 where
-  pub empty : fnv_from fnv_offset [] ≡ 0xcbf29ce484222325
-  pub a : fnv_from fnv_offset (codes "a") ≡ 0xaf63dc4c8601ec8c
-  pub foobar : fnv_from fnv_offset (codes "foobar") ≡ 0x85944171f73967e8
+  pub empty : fnv_from FNV_OFFSET [] ≡ 0xcbf29ce484222325
+  pub a : fnv_from FNV_OFFSET (codes "a") ≡ 0xaf63dc4c8601ec8c
+  pub foobar : fnv_from FNV_OFFSET (codes "foobar") ≡ 0x85944171f73967e8
   pub of_a : shard_of (codes "a") 4 ≡ 0
   pub of_foobar : shard_of (codes "foobar") 64 ≡ 40

@@ -5,21 +5,14 @@ use Rattle.ch_base.specs.declared.channel.ChanCall.{ChanCall}
 use Rattle.ch_base.specs.declared.channel.ChanCall.TheVariants as chan
 use Rattle.ch_base.specs.declared.user.UserCall.{UserCall}
 use Rattle.ch_base.specs.declared.user.UserCall.TheVariants as user
+use Rattle.ch_history.specs.declared.limits.TheConstants.{FNV_OFFSET, FNV_PRIME}
 use Rattle.ch_history.specs.Entries.{ChanHistory, UserHistory}
 use Rattle.ch_history.specs.Legal.{IsLegal}
 use Rattle.ch_history.specs.UserLegal.{IsUserLegal}
 
--- the hash of no bytes
-abbrev pub fnv_offset : ℕ
-fnv_offset = 14695981039346656037
-
--- by what the hash is multiplied at each byte
-abbrev pub fnv_prime : ℕ
-fnv_prime = 1099511628211
-
 -- the hash with one more byte
 abbrev pub fnv_next : ℕ → ℕ → ℕ
-fnv_next hash byte = bit_xor hash byte * fnv_prime % 2 ^ 64
+fnv_next hash byte = bit_xor hash byte * FNV_PRIME % 2 ^ 64
 
 -- the hash of the bytes after those of which this is the hash
 abbrev pub fnv_from : ℕ → List ℕ → ℕ
@@ -28,7 +21,7 @@ fnv_from hash (x ∷ xs) = fnv_from (fnv_next hash x) xs
 
 -- the shard of a channel or a user, of so many shards
 abbrev pub shard_of : List ℕ → ℕ → ℕ
-shard_of name shards = fnv_from fnv_offset name % shards
+shard_of name shards = fnv_from FNV_OFFSET name % shards
 
 -- the channel that a call names
 abbrev pub named_channel : ChanCall → Option (List ℕ)

@@ -90,8 +90,8 @@ abbrev pub of_user : List UserSocket → List ℕ → List UserSocket
 of_user xs user = filter (λ r. bytes_eq r.user user) xs
 
 -- whether the socket has one of the user
-abbrev pub is_of : List UserSocket → ℕ → List ℕ → Bool
-is_of xs socket user = list_any (λ r. r.socket == socket) (of_user xs user)
+abbrev pub has_one_of : List UserSocket → ℕ → List ℕ → Bool
+has_one_of xs socket user = list_any (λ r. r.socket == socket) (of_user xs user)
 
 -- the users of the socket, each once, ascending
 abbrev pub users_of : List UserSocket → ℕ → List (List ℕ)
@@ -105,11 +105,11 @@ has_any xs user = not (is_empty (of_user xs user))
 
 -- whether the socket is signed in as the user
 abbrev pub signed : UserHistory → ℕ → List ℕ → Bool
-signed h socket user = is_of (sign_ins h) socket user
+signed h socket user = has_one_of (sign_ins h) socket user
 
 -- whether the socket watches the user
 abbrev pub watching : UserHistory → ℕ → List ℕ → Bool
-watching h socket user = is_of (watches h) socket user
+watching h socket user = has_one_of (watches h) socket user
 
 -- the sockets that are signed in as the user, in the order of their sign-ins
 abbrev pub sockets : UserHistory → List ℕ → List UserSocket

@@ -22,8 +22,8 @@ asked_by caller (Join socket channel member at) =
 asked_by caller _ = None
 
 -- the subscription that the entry opens: a Join that is answered Joined
-abbrev pub opened : ChanEntry → Option Subscription
-opened e = if is_joined e.answer then asked_by e.caller e.call else None
+abbrev pub opened_by : ChanEntry → Option Subscription
+opened_by e = if is_joined e.answer then asked_by e.caller e.call else None
 
 -- whether the call joins the channel anew with this socket, leaves it, or loses the socket
 abbrev pub is_settled_by : Subscription → ChanAnswer → ChanCall → Bool
@@ -38,11 +38,11 @@ settles s e = is_settled_by s e.answer e.call
 
 -- the open subscriptions of all channels, in the order of their Joins
 abbrev pub subscriptions : ChanHistory → List Subscription
-subscriptions h = open_rows opened settles h
+subscriptions h = open_rows opened_by settles h
 
 -- the open subscriptions after one more entry
 abbrev pub subs_after : List Subscription → ChanEntry → List Subscription
-subs_after xs e = rows_after opened settles xs e
+subs_after xs e = rows_after opened_by settles xs e
 
 -- those to the channel c
 abbrev pub on_channel : List Subscription → List ℕ → List Subscription

@@ -7,13 +7,13 @@ use Rattle.ch_base.specs.declared.user.UserAnswer.TheVariants.{SignedIn, Already
 use Rattle.ch_base.specs.declared.frame.FrameFor.{FrameFor}
 use Rattle.ch_history.specs.declared.rows.UserSocket.{UserSocket}
 use Rattle.ch_history.specs.Entries.{UserHistory}
-use Rattle.ch_history.specs.SignIns.{sign_ins, watches, of_user, is_of, users_of}
+use Rattle.ch_history.specs.SignIns.{sign_ins, watches, of_user, has_one_of, users_of}
 use Rattle.ch_history.specs.UserFrames.{user_waiting}
 
 -- what a call is answered; signs: the sign-ins, seen: the watches, mine: the frames that wait for its caller
 abbrev pub user_answer_by : List UserSocket → List UserSocket → List FrameFor → UserCall → UserAnswer
-user_answer_by signs seen mine (SignIn socket user at) = if is_of signs socket user then AlreadyIn else SignedIn
-user_answer_by signs seen mine (Watch socket watched at) = if is_of seen socket watched then AlreadyWatching else Watching
+user_answer_by signs seen mine (SignIn socket user at) = if has_one_of signs socket user then AlreadyIn else SignedIn
+user_answer_by signs seen mine (Watch socket watched at) = if has_one_of seen socket watched then AlreadyWatching else Watching
 user_answer_by signs seen mine (Lost socket at) = Gone (length (users_of signs socket)) (length (users_of seen socket))
 user_answer_by signs seen mine (Terminate user at) = Killed (length (of_user signs user))
 user_answer_by signs seen mine (SendTo user event body at) = SentTo (length (of_user signs user))

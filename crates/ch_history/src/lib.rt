@@ -16,5 +16,7 @@ pub use laws::{
     cache_newcomers_are_told, held_channels_are_vacant, membership_alternates,
     occupancy_alternates, watchers_are_told,
 };
-pub use limits::{CACHED_FOR, HELD_FOR};
+pub use limits::{
+    CACHED_FOR, FNV_OFFSET, FNV_PRIME, HELD_FOR, LONGEST_TAIL, MAX_NAME, MAX_USER_ID, MAX_USERS,
+};
 pub use rows::{Cached, Delivery, HeldNotice, Subscription, UserSocket};

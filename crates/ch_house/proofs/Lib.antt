@@ -9,6 +9,5 @@ pub mod Counted
 pub mod ClosedHouses
 pub mod OwnCounts
 pub mod Crossing
-pub mod AnswerKinds
 pub mod DeskCalls
 pub mod HouseNames

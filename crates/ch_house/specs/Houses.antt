@@ -5,6 +5,7 @@ use Rattle.ch_base.specs.declared.channel.ChanCall.{ChanCall}
 use Rattle.ch_base.specs.declared.channel.ChanAnswer.{ChanAnswer}
 use Rattle.ch_base.specs.declared.user.UserCall.{UserCall}
 use Rattle.ch_base.specs.declared.user.UserAnswer.{UserAnswer}
+use Rattle.ch_config.specs.declared.limits.TheConstants.{MAX_SHARDS}
 use Rattle.ch_history.specs.Entries.{ChanHistory, UserHistory}
 use Rattle.ch_history.specs.Placement.{IsLegalAt, IsUserLegalAt}
 use Rattle.ch_turn.specs.Callers.{CallersBelow}
@@ -48,13 +49,13 @@ seen_user passes k = slice_index_or passes.users k []
 abbrev pub AreAllPlaces : ℕ → List (ℕ × ℕ) → Type 0
 AreAllPlaces n places = (k : ℕ) → k < n → slice_index_or places k (0, 0) ≡ (k, n)
 
--- there are 1 to 64 shards of each kind, each in the lock of its number, and all have the same callers
+-- there are 1 to `MAX_SHARDS` shards of each kind, each in the lock of its number, and all have the same callers
 pub record IsHouse (house : HouseModel) : Type 0 where
   pub some : 1 ≤ chan_count house
-  pub few : chan_count house ≤ 64
+  pub few : chan_count house ≤ MAX_SHARDS
   pub places : (k : ℕ) → k < chan_count house → place_of house.chans k ≡ (k, chan_count house)
   pub some_users : 1 ≤ user_count house
-  pub few_users : user_count house ≤ 64
+  pub few_users : user_count house ≤ MAX_SHARDS
   pub user_places : (k : ℕ) → k < user_count house → place_of house.users k ≡ (k, user_count house)
   pub callers : house.users.callers ≡ house.chans.callers
 

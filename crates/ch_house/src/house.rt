@@ -3,17 +3,18 @@ ghost use Rattle.std.specs.Prelude.{◌≡◌, ◌<◌, ◌≤◌, ℕ, length, 
 ghost use Rattle.ch_base.specs.Growth.{GrowsBy};
 ghost use Rattle.ch_base.specs.declared.channel.ChanCall.TheVariants as chan_call;
 ghost use Rattle.ch_base.specs.declared.user.UserCall.TheVariants as user_call;
+ghost use Rattle.ch_config.specs.declared.limits.TheConstants.{MAX_SHARDS};
 ghost use Rattle.ch_history.specs.WellFormed.{IsWellFormed};
 ghost use Rattle.ch_history.specs.UserLegal.{IsUserWellFormed};
 ghost use Rattle.ch_history.specs.Placement.{BelongsTo, IsLegalAt, UserBelongsTo, IsUserLegalAt};
 ghost use Rattle.ch_turn.specs.Callers.{CallersBelow};
 
-use crate::counting::{count_chans, count_users};
+use crate::counting::count_each;
 use crate::counts::HouseClosed;
 use crate::locks::Locks;
 use crate::passes::Passes;
 use crate::passes_list::PassesList;
-use crate::seating::{chan_seats, user_seats};
+use crate::seating::fresh_seats;
 use ch_base::{ChanAnswer, ChanCall, Memory, UserAnswer, UserCall};
 use ch_shard::ChanSeat;
 use ch_ushard::UserSeat;
@@ -51,8 +52,8 @@ impl House {
         users: u64,
         callers: u64,
     ) -> Result<(House, PassesList), Memory>
-        requires chans { (1 ≤ chans) × (chans ≤ 64) }
-        requires users { (1 ≤ users) × (users ≤ 64) }
+        requires chans { (1 ≤ chans) × (chans ≤ MAX_SHARDS) }
+        requires users { (1 ≤ users) × (users ≤ MAX_SHARDS) }
         requires callers { (1 ≤ callers) × (callers ≤ 64) }
         ensures chans { IfOk result (λ made. chan_count made.0 ≡ chans) }
         ensures users { IfOk result (λ made. user_count made.0 ≡ users) }
@@ -64,8 +65,8 @@ impl House {
     {
         let chan_room = Vec::with_capacity(alloc, chans as usize)?;
         let user_room = Vec::with_capacity(alloc, users as usize)?;
-        let (chans, chan_passes) = Locks::new(alloc, chan_seats(alloc, chans)?, callers)?;
-        let (users, user_passes) = Locks::new(alloc, user_seats(alloc, users)?, callers)?;
+        let (chans, chan_passes) = Locks::new(alloc, fresh_seats(alloc, chans)?, callers)?;
+        let (users, user_passes) = Locks::new(alloc, fresh_seats(alloc, users)?, callers)?;
         let passes = PassesList {
             chans: chan_passes,
             users: user_passes,
@@ -142,8 +143,8 @@ impl House {
             user_room,
         } = passes;
         HouseClosed {
-            chans: count_chans(chans.close(chan_passes), chan_room),
-            users: count_users(users.close(user_passes), user_room),
+            chans: count_each(chans.close(chan_passes), chan_room),
+            users: count_each(users.close(user_passes), user_room),
         }
     }
 }

@@ -1,5 +1,6 @@
 //! What a caller calls a house with.
 ghost use Rattle.std.specs.Prelude.{◌≡◌, ◌<◌, ◌≤◌, ℕ, length};
+ghost use Rattle.ch_config.specs.declared.limits.TheConstants.{MAX_SHARDS};
 ghost use Rattle.ch_history.specs.Placement.{IsLegalAt, IsUserLegalAt};
 ghost use Rattle.ch_turn.specs.Callers.{CallersBelow};
 
@@ -38,12 +39,12 @@ impl Passes {
         self.chans.caller()
     }
 
-    /// How many channel shards there are: 1 to 64. What the caller knows of each is a legal history of calls that
+    /// How many channel shards there are: 1 to `MAX_SHARDS`. What the caller knows of each is a legal history of calls
     /// belong to it, all of the house's callers.
     pub fn chan_shards(&self) -> u64
         ensures count { result ≡ length self.now.chans }
         ensures some { 1 ≤ result }
-        ensures few { result ≤ 64 }
+        ensures few { result ≤ MAX_SHARDS }
         ensures legal { (k : ℕ) → k < result → IsLegalAt (k, result) (seen self.now k) }
         ensures known_callers { (k : ℕ) → k < result
             → CallersBelow self.now.house.chans.callers (seen self.now k) }
@@ -51,12 +52,12 @@ impl Passes {
         self.chans.count()
     }
 
-    /// How many user shards there are: 1 to 64. What the caller knows of each is a legal history of calls that belong
+    /// How many user shards there are: 1 to `MAX_SHARDS`. What the caller knows of each is a legal history of calls that
     /// to it, all of the house's callers.
     pub fn user_shards(&self) -> u64
         ensures count { result ≡ length self.now.users }
         ensures some { 1 ≤ result }
-        ensures few { result ≤ 64 }
+        ensures few { result ≤ MAX_SHARDS }
         ensures legal { (k : ℕ) → k < result → IsUserLegalAt (k, result) (seen_user self.now k) }
         ensures known_callers { (k : ℕ) → k < result
             → CallersBelow self.now.house.chans.callers (seen_user self.now k) }

@@ -9,7 +9,7 @@ use Rattle.std.proofs.lemmas.List.Folds.{list_all-append}
 use Rattle.std.proofs.lemmas.Str.Parse.{IsNumeralModel, numerals_by_value, digits_value_short, digits_value-take-le, digit_at}
 use Rattle.std.proofs.lemmas.Str.{digit_value_digit}
 use Rattle.ch_requests.specs.Fields.{missing, bad, is, is_length, agree, length_by}
-use Rattle.ch_http.specs.Lengths.{meaning, with_number, with_value}
+use Rattle.ch_http.specs.Lengths.{length_of, with_number, with_value}
 use Rattle.ch_http.specs.declared.length.BodyLength.{BodyLength}
 use Rattle.ch_http.specs.declared.length.BodyLength.TheVariants.{Missing, Bad, Is}
 
@@ -46,31 +46,31 @@ digit_in value i digits within = digit_value_digit (get_or value i 0) (digit_at 
 
 -- ---- one more value
 
-known_missing : (length : BodyLength) → meaning length ≡ missing → length ≡ Missing
+known_missing : (length : BodyLength) → length_of length ≡ missing → length ≡ Missing
 known_missing Missing means = refl
 known_missing Bad means = cc
 known_missing (Is n) means = cc
 
-known_bad : (length : BodyLength) → meaning length ≡ bad → length ≡ Bad
+known_bad : (length : BodyLength) → length_of length ≡ bad → length ≡ Bad
 known_bad Missing means = cc
 known_bad Bad means = refl
 known_bad (Is n) means = cc
 
-known_is : (length : BodyLength) (n : ℕ) → meaning length ≡ is n → length ≡ Is n
+known_is : (length : BodyLength) (n : ℕ) → length_of length ≡ is n → length ≡ Is n
 known_is Missing n means = cc
 known_is Bad n means = cc
 known_is (Is m) n means = cc
 
-first_value : (good : Bool) (n : ℕ) → meaning (with_number Missing (cond good (Some n) None)) ≡ cond ((good && true) && true) (is n) bad
+first_value : (good : Bool) (n : ℕ) → length_of (with_number Missing (cond good (Some n) None)) ≡ cond ((good && true) && true) (is n) bad
 first_value true n = refl
 first_value false n = refl
 
-one_more_value : (lengths numbers good : Bool) (m n : ℕ) (told : BodyLength) → meaning told ≡ cond (lengths && numbers) (is n) bad
-    → meaning (with_number told (cond good (Some m) None))
+one_more_value : (lengths numbers good : Bool) (m n : ℕ) (told : BodyLength) → length_of told ≡ cond (lengths && numbers) (is n) bad
+    → length_of (with_number told (cond good (Some m) None))
     ≡ cond ((lengths && (good && true)) && (numbers && ((m == n) && true))) (is n) bad
 one_more_value true true true m n told means = rw (known_is told n means) (by (m == n))
   where
-    by : (same : Bool) → meaning (cond same (Is n) Bad) ≡ cond (same && true) (is n) bad
+    by : (same : Bool) → length_of (cond same (Is n) Bad) ≡ cond (same && true) (is n) bad
     by true = refl
     by false = refl
 one_more_value true numbers false m n told means = refl
@@ -78,10 +78,10 @@ one_more_value true false true m n told means = rw (known_bad told means) refl
 one_more_value false numbers true m n told means = rw (known_bad told means) refl
 one_more_value false numbers false m n told means = refl
 
-pub length_by-push : (values : List (List ℕ)) (value : List ℕ) (told : BodyLength) → meaning told ≡ length_by values
-    → meaning (with_value told value) ≡ length_by (values ++ value ∷ [])
+pub length_by-push : (values : List (List ℕ)) (value : List ℕ) (told : BodyLength) → length_of told ≡ length_by values
+    → length_of (with_value told value) ≡ length_by (values ++ value ∷ [])
 length_by-push [] value told means =
-    subst (λ l. meaning (with_value l value) ≡ length_by (value ∷ [])) (sym (known_missing told means))
+    subst (λ l. length_of (with_value l value) ≡ length_by (value ∷ [])) (sym (known_missing told means))
     (first_value (is_length value) (digits_value 10 value))
 length_by-push (first ∷ values) value told means =
     rw (list_all-append is_length (first ∷ values) (value ∷ []), list_all-append (λ v. digits_value 10 v == digits_value 10 first) values (value ∷ []))

@@ -8,14 +8,14 @@ use Rattle.ch_http.specs.declared.heading.Heading.{Heading}
 use Rattle.ch_http.specs.declared.heading.Heading.TheVariants.{Hopeless, Unfinished, Whole}
 
 -- the heading of the definitions
-abbrev pub meaning : Heading → Defined
-meaning Hopeless = hopeless
-meaning Unfinished = unfinished
-meaning (Whole head) = whole head
+abbrev pub heading_of : Heading → Defined
+heading_of Hopeless = hopeless
+heading_of Unfinished = unfinished
+heading_of (Whole head) = whole head
 
 -- what these first bytes hold of a head
 abbrev pub IsHeadingOf : List ℕ → Heading → Type 0
-IsHeadingOf first heading = IsHeading first (meaning heading)
+IsHeadingOf first heading = IsHeading first (heading_of heading)
 
 -- the name that the spans cover is a text
 abbrev pub HasTextName : List ℕ → HeaderSpan → Type 0

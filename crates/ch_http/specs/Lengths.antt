@@ -6,10 +6,10 @@ use Rattle.ch_http.specs.declared.length.BodyLength.{BodyLength}
 use Rattle.ch_http.specs.declared.length.BodyLength.TheVariants.{Missing, Bad, Is}
 
 -- the length of the definitions
-abbrev pub meaning : BodyLength → Defined
-meaning Missing = missing
-meaning Bad = bad
-meaning (Is n) = is n
+abbrev pub length_of : BodyLength → Defined
+length_of Missing = missing
+length_of Bad = bad
+length_of (Is n) = is n
 
 -- the number that a value is
 abbrev pub length_in : List ℕ → Option ℕ

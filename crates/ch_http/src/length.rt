@@ -3,7 +3,7 @@ ghost use Rattle.std.specs.Char.{is_ascii_digit};
 ghost use Rattle.std.specs.List.{list_all};
 ghost use Rattle.std.specs.Str.Parse.{digits_value};
 ghost use Rattle.ch_requests.specs.Fields.{body_length, is_length, length_by, values_of};
-ghost use Rattle.ch_http.specs.Lengths.{meaning, length_in, with_value};
+ghost use Rattle.ch_http.specs.Lengths.{length_of, length_in, with_value};
 
 use crate::field::{has_field, is_named};
 use ch_requests::HeadField;
@@ -24,7 +24,7 @@ pub(crate) enum BodyLength {
 
 /// The length of the body. One that is coded for its transfer has none.
 pub(crate) fn body_length(fields: &[HeadField]) -> BodyLength
-    ensures { meaning result ≡ body_length fields.now }
+    ensures { length_of result ≡ body_length fields.now }
 {
     if has_field(fields, "transfer-encoding") {
         BodyLength::Missing
@@ -34,7 +34,7 @@ pub(crate) fn body_length(fields: &[HeadField]) -> BodyLength
 }
 
 fn content_length(fields: &[HeadField]) -> BodyLength
-    ensures { meaning result ≡ length_by (values_of (codes "content-length") fields.now) }
+    ensures { length_of result ≡ length_by (values_of (codes "content-length") fields.now) }
 {
     let mut length = BodyLength::Missing;
     'fields: for field in fields {

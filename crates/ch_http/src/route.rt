@@ -1,5 +1,5 @@
 ghost use Rattle.std.specs.Prelude.{◌≡◌, [], ◌∷◌, IfOk, map};
-ghost use Rattle.ch_requests.specs.Routes.{route_of, parts_of, route_below, route_by_word, decoded_route, decoded, method_of};
+ghost use Rattle.ch_requests.specs.Routes.{route_of, parts_of, route_below, route_by_word, decoded_route, decoded};
 
 use ch_base::{Memory, Text};
 use ch_requests::Route;
@@ -95,19 +95,5 @@ fn decoded(alloc: Global, name: &str) -> Result<Option<Text>, Memory>
         Ok(text) => Ok(Some(Text::from_string(text.into_owned(alloc)?))),
         Err(DecodeError::Utf8(_)) => Ok(None),
         Err(DecodeError::OutOfMemory) => Err(Memory),
-    }
-}
-
-/// The method of a route.
-pub(crate) fn method_of(route: &Route) -> &'static str
-    ensures { result.now ≡ method_of route.now }
-{
-    match route {
-        Route::Events => "POST",
-        Route::BatchEvents => "POST",
-        Route::Channels => "GET",
-        Route::Channel(_) => "GET",
-        Route::ChannelUsers(_) => "GET",
-        Route::Terminate(_) => "POST",
     }
 }

@@ -9,7 +9,7 @@ use crate::first_bytes::{first_bytes, is_full};
 use crate::heading::{Heading, read_heading};
 use crate::length::{BodyLength, body_length};
 use crate::query::read_query;
-use crate::route::{decoded_route, method_of, route_of};
+use crate::route::{decoded_route, route_of};
 use crate::target::{path_of, query_of};
 use ch_base::{Bytes, Memory, Text};
 use ch_requests::{Head, LONGEST_CONTENT, Look, Request, Route};
@@ -85,7 +85,7 @@ fn is_get(head: &Head) -> bool
 fn with_route(alloc: Global, head: &Head, route: Route, behind: &[u8]) -> Result<Look, Memory>
     ensures { IfOk result (λ look. look ≡ with_route head.now behind.now (Some route)) }
 {
-    if head.method.as_str() != method_of(&route) {
+    if head.method.as_str() != route.method() {
         return Ok(Look::Refuse(405));
     }
     match decoded_route(alloc, route)? {

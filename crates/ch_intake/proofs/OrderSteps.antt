@@ -4,6 +4,7 @@ use Rattle.std.specs.Prelude.{slice_get}
 use Rattle.std.proofs.Math.Seq.{drop-append_seam, take-append_seam, take-length}
 use Rattle.std.proofs.lemmas.List.{take-append-le, length-append}
 use Rattle.std.proofs.lemmas.Option.{slice_get_within}
+use Rattle.ch_intake.specs.declared.limits.TheConstants.{PLACES}
 use Rattle.ch_intake.specs.declared.step.Step.{Step}
 use Rattle.ch_intake.specs.declared.step.Step.TheVariants.{Push, Pop}
 use Rattle.ch_intake.specs.Orders.{items_pushed, items_popped, items_waiting, MayFollow, IsLegal}
@@ -50,18 +51,18 @@ module _ {C : Type 0} where
       subst (λ l. MayFollow l y) (sym (take-append-le k h (s ∷ []) (omega arith))) (legal k y at))
       (subst (λ l. MayFollow l s) (sym (take-append_seam h (s ∷ []))) may)
 
-  -- what waits, at most 128 items
+  -- what waits, at most `PLACES` items
   abbrev Holds : List (Step C) → Type 0
-  Holds h = (items : List C) × Leaves h items × (length items ≤ 128)
+  Holds h = (items : List C) × Leaves h items × (length items ≤ PLACES)
 
-  holds_pop : (h : List (Step C)) (items : List C) (caller : ℕ) (x : C) → Leaves h items → length items ≤ 128 → slice_get items 0 ≡ Some x → Holds (h ++ Pop caller x ∷ [])
+  holds_pop : (h : List (Step C)) (items : List C) (caller : ℕ) (x : C) → Leaves h items → length items ≤ PLACES → slice_get items 0 ≡ Some x → Holds (h ++ Pop caller x ∷ [])
   holds_pop h [] caller x leaves few first = absurd (cc)
   holds_pop h (y ∷ items) caller x leaves few first =
       let same : y ≡ x = cc in (items, leaves_pop h items caller x (leaves ∙ ap (λ z. items_popped h ++ z ∷ items) same), omega arith)
 
   holds_step : (h : List (Step C)) (s : Step C) → Holds h → MayFollow h s → Holds (h ++ s ∷ [])
   holds_step h (Push caller x) (items, leaves, few) may =
-      let room : length items < 128 = subst (λ l. length l < 128) (waiting_are h items leaves) may in
+      let room : length items < PLACES = subst (λ l. length l < PLACES) (waiting_are h items leaves) may in
       (items ++ x ∷ [], leaves_push h items caller x leaves, omega (arith, length-append items (x ∷ [])))
   holds_step h (Pop caller x) (items, leaves, few) may =
       holds_pop h items caller x leaves few (subst (λ l. slice_get l 0 ≡ Some x) (waiting_are h items leaves) may)
@@ -72,9 +73,9 @@ module _ {C : Type 0} where
       let here = element_within h k (omega arith) in
       subst Holds (sym (take_one_more h k here.0 here.1)) (holds_step (take k h) here.0 (holds_taken h legal k (omega arith)) (legal k here.0 here.1))
 
-  -- in a legal order what was pushed is what was popped, and then the at most 128 items that wait
+  -- in a legal order what was pushed is what was popped, and then the at most `PLACES` items that wait
   pub legal_in_order : (h : List (Step C)) → IsLegal h → ComeOutInOrder h
   legal_in_order h legal =
       let all : Holds h = subst Holds (take-length h) (holds_taken h legal (length h) (omega arith)) in
       let wait = waiting_are h all.0 all.1 in
-      (all.1 ∙ ap (λ l. items_popped h ++ l) (sym wait), subst (λ l. length l ≤ 128) (sym wait) all.2)
+      (all.1 ∙ ap (λ l. items_popped h ++ l) (sym wait), subst (λ l. length l ≤ PLACES) (sym wait) all.2)

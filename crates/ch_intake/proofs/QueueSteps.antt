@@ -8,6 +8,7 @@ use lib.ListN.{get_elem?}
 use Rattle.crossbeam_queue.specs.Fifo.{Forks, Learns}
 use Rattle.crossbeam_queue.specs.Fifo as fifo
 use Rattle.crossbeam_queue.proofs.Lists.{at_set}
+use Rattle.ch_intake.specs.declared.limits.TheConstants.{PLACES}
 use Rattle.ch_intake.specs.declared.step.Step.{Step}
 use Rattle.ch_intake.specs.declared.step.Step.TheVariants.{Push, Pop}
 use Rattle.ch_intake.specs.declared.step.Known.{Known}
@@ -57,11 +58,11 @@ module _ {C : Type 0} where
       → Steps s v (known v.low v.high (log ++ s ∷ []))
   steps_step log owner port v s fits mine legal = (refl, (log, (fits.0, (fits.2 (caller_of s) mine).0, fits.1), refl), legal)
 
-  pub pushes : (port : ℕ) (v : Known C) (x : C) → v.low < v.high → fifo.Pushes Kept 128 port v x (Pushes v x)
+  pub pushes : (port : ℕ) (v : Known C) (x : C) → v.low < v.high → fifo.Pushes Kept PLACES port v x (Pushes v x)
   pushes port v x some_number items views room kept at =
       let s : Step C = Push v.low x in
       let mine : HasNumber (caller_of s) v = (omega arith, some_number) in
-      let may : MayFollow kept.log s = subst (λ l. length l < 128) (sym (waiting_are kept.log items kept.content)) room in
+      let may : MayFollow kept.log s = subst (λ l. length l < PLACES) (sym (waiting_are kept.log items kept.content)) room in
       let legal = legal_push kept.log s kept.is_legal may in (
         known v.low v.high (kept.log ++ s ∷ []),
         record {

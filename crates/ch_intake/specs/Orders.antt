@@ -1,5 +1,6 @@
 -- Steps on a queue, in the order in which they were made.
 use Rattle.std.specs.Prelude.{◌≡◌, ◌≢◌, ℕ, ◌<◌, List, [], ◌∷◌, ◌++◌, length, take, drop, All, slice_get, Some}
+use Rattle.ch_intake.specs.declared.limits.TheConstants.{PLACES}
 use Rattle.ch_intake.specs.declared.step.Step.{Step}
 use Rattle.ch_intake.specs.declared.step.Step.TheVariants.{Push, Pop}
 
@@ -20,9 +21,9 @@ module _ {C : Type 0} where
   abbrev pub items_waiting : List (Step C) → List C
   items_waiting steps = drop (length (items_popped steps)) (items_pushed steps)
 
-  -- a step may come after these: an item is pushed where fewer than 128 wait, and the first that waits is popped
+  -- a step may come after these: an item is pushed where fewer than `PLACES` wait, and the first that waits is popped
   abbrev pub MayFollow : List (Step C) → Step C → Type 0
-  MayFollow steps (Push caller item) = length (items_waiting steps) < 128
+  MayFollow steps (Push caller item) = length (items_waiting steps) < PLACES
   MayFollow steps (Pop caller item) = slice_get (items_waiting steps) 0 ≡ Some item
 
   -- each step may come after those before it

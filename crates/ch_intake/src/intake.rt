@@ -1,10 +1,12 @@
 //! The intake.
 ghost use Rattle.std.specs.Prelude.{◌≡◌, ℕ, ◌<◌, ◌≤◌, length, slice_index_or, None, Some, IfOk, IfErr, OnOk, IfSome, IfNone};
+ghost use Rattle.ch_intake.specs.declared.limits.TheConstants.{PLACES};
 ghost use Rattle.ch_intake.specs.Orders.{IsLegal, GrowsBy, HeldOnce};
 ghost use Rattle.ch_intake.specs.PassModels.{fresh_pass};
 ghost use Rattle.ch_intake.specs.declared.step.Step.TheVariants as step;
 
 use crate::dealing::deal_passes;
+use crate::limits::PLACES;
 use crate::pass::IntakePass;
 use crate::passes::IntakePasses;
 use crate::rule::{Popping, Pushing, Queue};
@@ -13,9 +15,6 @@ use std::alloc::Global;
 use std::marker::Model;
 use std::snapshot::Snapshot;
 use std::sync::Wait;
-
-/// How many items an intake holds.
-pub const PLACES: usize = 128;
 
 /// A push found the intake full, and hands its item back.
 #[derive(Debug, Drop)]
@@ -34,12 +33,13 @@ impl<C: Drop> Model for Intake<C> {
     ghost use Rattle.std.specs.Prelude.{◌≡◌};
     ghost use Rattle.atomic_table.specs.Seated.{TableId};
     ghost use Rattle.crossbeam_queue.specs.Passes.{ruled_capacity};
+    ghost use Rattle.ch_intake.specs.declared.limits.TheConstants.{PLACES};
 
     ghost Value = { TableId };
 
     ghost view = { λ i. i.queue.table.shared.table_id };
 
-    ghost invariant = { λ i. ruled_capacity i.queue ≡ 128 };
+    ghost invariant = { λ i. ruled_capacity i.queue ≡ PLACES };
 }
 
 impl<C: Drop> Intake<C> {
@@ -70,7 +70,7 @@ impl<C: Drop> Intake<C> {
         ensures legal { IsLegal pass.new.seen }
         ensures item { IfErr result (λ full. full.item ≡ item) }
         ensures full { IfErr result (λ full. (pass.new.seen ≡ pass.old.seen)
-            × HeldOnce 128 pass.old.caller pass.old.seen) }
+            × HeldOnce PLACES pass.old.caller pass.old.seen) }
     {
         let queue = &self.queue;
         match queue.push_as::<Pushing<C>, R>(rt, &mut pass.pass, item) {

@@ -1,4 +1,4 @@
-//! The intake: a queue of 128 places, through which one thread hands new connections to others.
+//! The intake: a queue of [`PLACES`] places, through which one thread hands new connections to others.
 //!
 //! An [`Intake`] goes round any type of item. A caller pushes and pops with its [`IntakePass`], which keeps the steps
 //! that the caller has seen. Each push adds its item at the back of the queue and each pop takes the item at its front,
@@ -12,13 +12,15 @@
 mod dealing;
 mod intake;
 mod laws;
+mod limits;
 mod pass;
 mod passes;
 mod rule;
 mod step;
 
-pub use intake::{Full, Intake, PLACES};
+pub use intake::{Full, Intake};
 pub use laws::items_come_out_in_order;
+pub use limits::PLACES;
 pub use pass::IntakePass;
 pub use passes::IntakePasses;
 pub use rule::OneOrder;

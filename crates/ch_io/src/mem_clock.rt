@@ -1,4 +1,5 @@
-ghost use Rattle.std.specs.Prelude.{◌≡◌, ◌≤◌, ◌^◌, All};
+ghost use Rattle.std.specs.Prelude.{◌≡◌, ◌≤◌, All};
+ghost use Rattle.ch_base.specs.declared.limits.TheConstants.{LATEST_MOMENT};
 
 use crate::clock::Clock;
 use std::marker::Model;
@@ -13,19 +14,20 @@ pub struct MemClock {
 }
 
 impl Model for MemClock {
-    ghost use Rattle.std.specs.Prelude.{ℕ, List, ◌≤◌, ◌^◌, drop, All};
+    ghost use Rattle.std.specs.Prelude.{ℕ, List, ◌≤◌, drop, All};
+    ghost use Rattle.ch_base.specs.declared.limits.TheConstants.{LATEST_MOMENT};
 
     ghost Value = { List ℕ };
 
     ghost view = { λ c. drop c.next c.moments.items };
 
-    ghost invariant = { λ c. (c.last ≤ 10 ^ 15) × All (λ m. m ≤ 10 ^ 15) c.moments.items };
+    ghost invariant = { λ c. (c.last ≤ LATEST_MOMENT) × All (λ m. m ≤ LATEST_MOMENT) c.moments.items };
 }
 
 impl MemClock {
-    /// A clock that gives these moments, each at most 10^15.
+    /// A clock that gives these moments, each at most `LATEST_MOMENT`.
     pub fn new(moments: Vec<u64>) -> MemClock
-        requires { All (λ m. m ≤ 10 ^ 15) moments.items }
+        requires { All (λ m. m ≤ LATEST_MOMENT) moments.items }
         ensures { result ≡ moments.items }
     {
         MemClock {

@@ -7,7 +7,7 @@ use Rattle.std.specs.Str.{IsCharBoundary}
 use Rattle.std.proofs.lemmas.Str.{IsCharBoundary-after_ascii, IsCharBoundary-before_ascii, IsCharBoundary-end, encode_ascii}
 use Rattle.std.proofs.lemmas.Bool.{and_parts, cases_lt}
 use Rattle.std.proofs.lemmas.List.{drop-drop, length-drop, get_or-drop, drop_all}
-use Rattle.ch_base.specs.JsonText.{is_hex, is_d, is_8_to_b, is_c_to_f, is_short, Char, byte, short, unit, pair, is_char, Chars, short_value, hex_value, meaning}
+use Rattle.ch_base.specs.JsonText.{is_hex, is_d, is_8_to_b, is_c_to_f, is_short, Char, byte, short, unit, pair, is_char, Chars, short_value, hex_value, char_bytes}
 use Rattle.ch_json.specs.Pieces.{GoesOn, AreHex}
 use Rattle.ch_json.proofs.Lists.{drop_front}
 use Rattle.ch_json.proofs.OneText.{no_quote, no_backslash}
@@ -179,7 +179,7 @@ short_piece bs at cs ch utf8 (a_short x ds e is len h) ne same small =
       boundary = after_small bs (at + 1) (at + 2) x utf8 (omega arith) e (short_ascii x is) (omega arith);
       rest = ds;
       follow = h;
-      says = ap (λ (y : List ℕ). y ++ flat_map meaning ds) (sym (encode_ascii ch small ∙ ap (λ y. y ∷ []) value));
+      says = ap (λ (y : List ℕ). y ++ flat_map char_bytes ds) (sym (encode_ascii ch small ∙ ap (λ y. y ∷ []) value));
     }
 short_piece bs at cs ch utf8 (a_unit a b c d ds e f is len z h) ne same small = absurd (ne e)
 short_piece bs at cs ch utf8 (a_pair a b c d x f g y ds e u v is len z h) ne same small = absurd (ne e)
@@ -192,7 +192,7 @@ unit_piece bs at cs ch utf8 (a_unit a b c d ds e f is len z h) u other same = re
   boundary = after_small bs (at + 5) (at + 6) d utf8 (omega arith) z (hex_ascii d (subst (λ k. is_hex k ≡ true) f.fourth (unit_hex bs at (unit a b c d ∷ ds) (a_unit a b c d ds e f is len z h) u).fourth)) (omega arith);
   rest = ds;
   follow = h;
-  says = ap (λ y. encode_utf8 y ++ flat_map meaning ds) (sym (same ∙ four_value bs (at + 2) a b c d f));
+  says = ap (λ y. encode_utf8 y ++ flat_map char_bytes ds) (sym (same ∙ four_value bs (at + 2) a b c d f));
 }
 unit_piece bs at cs ch utf8 (a_pair a b c d x f g y ds e v w is len z h) u other same = absurd (let k = sym other ∙ four_high bs (at + 2) a b c d v ∙ pair_high a b c d x f g y is in cc k)
 
@@ -207,19 +207,19 @@ pair_piece bs at cs ch utf8 (a_pair a b c d x f g y ds e v w is len z h) u high 
       boundary = after_small bs (at + 11) (at + 12) y utf8 (omega arith) z (hex_ascii y (subst (λ k. is_hex k ≡ true) w.fourth (low_half bs at (pair a b c d x f g y ∷ ds) (a_pair a b c d x f g y ds e v w is len z h) u high).hex.fourth)) (omega arith);
       rest = ds;
       follow = h;
-      says = ap (λ k. encode_utf8 k ++ flat_map meaning ds) (sym (same ∙ ap₂ (λ i j. 0x10000 + (i - 0xd800) * 1024 + (j - 0xdc00)) (four_value bs (at + 2) a b c d v) (four_value bs (at + 8) x f g y w)));
+      says = ap (λ k. encode_utf8 k ++ flat_map char_bytes ds) (sym (same ∙ ap₂ (λ i j. 0x10000 + (i - 0xd800) * 1024 + (j - 0xdc00)) (four_value bs (at + 2) a b c d v) (four_value bs (at + 8) x f g y w)));
     }
 
 -- ---- a run of bytes that stand for themselves
 
 pub run_chars : (n : ℕ) (cs : List Char) (t : List ℕ) → n ≤ length t → ((k : ℕ) → k < n → get_or t k 0 ≡ 34 → ⊥) → ((k : ℕ) → k < n → get_or t k 0 ≡ 92 → ⊥) → Chars cs t []
-    → (rest : List Char) × Chars rest (drop n t) [] × (flat_map meaning cs ≡ take n t ++ flat_map meaning rest)
+    → (rest : List Char) × Chars rest (drop n t) [] × (flat_map char_bytes cs ≡ take n t ++ flat_map char_bytes rest)
 run_chars zero cs t le no_q no_b h = (cs, h, refl)
 run_chars (suc n) [] t le no_q no_b e = absurd (no_q 0 (omega arith) (ap (λ l. get_or l 0 0) e))
 run_chars (suc n) (byte x ∷ cs) t le no_q no_b (is, (m, e, h)) =
     let shorter : n ≤ length m = omega (arith, ap length e) in
     let k = run_chars n cs m shorter (λ i lt f. no_q (suc i) (omega arith) (ap (λ l. get_or l (suc i) 0) e ∙ f)) (λ i lt f. no_b (suc i) (omega arith) (ap (λ l. get_or l (suc i) 0) e ∙ f)) h in
-    (k.0, subst (λ l. Chars k.0 (drop (suc n) l) []) (sym e) k.1, ap (λ (l : List ℕ). x ∷ l) k.2 ∙ ap (λ l. take (suc n) l ++ flat_map meaning k.0) (sym e))
+    (k.0, subst (λ l. Chars k.0 (drop (suc n) l) []) (sym e) k.1, ap (λ (l : List ℕ). x ∷ l) k.2 ∙ ap (λ l. take (suc n) l ++ flat_map char_bytes k.0) (sym e))
 run_chars (suc n) (short x ∷ cs) t le no_q no_b (is, (m, e, h)) = absurd (no_b 0 (omega arith) (ap (λ l. get_or l 0 0) e))
 run_chars (suc n) (unit a b c d ∷ cs) t le no_q no_b (is, (m, e, h)) = absurd (no_b 0 (omega arith) (ap (λ l. get_or l 0 0) e))
 run_chars (suc n) (pair a b c d x f g y ∷ cs) t le no_q no_b (is, (m, e, h)) = absurd (no_b 0 (omega arith) (ap (λ l. get_or l 0 0) e))

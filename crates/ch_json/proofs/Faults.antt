@@ -4,7 +4,8 @@ use Rattle.std.proofs.lemmas.List.{take_more, length-take-le, take-append-drop}
 use Rattle.std.proofs.Common.{◌==◌, take-add, take_all, ◌≡◌, ◌⊎◌, inl, inr, ℕ, zero, suc, ◌+◌, ◌-◌, ◌<◌, ◌≤◌, List, [], ◌∷◌, ◌++◌, length, append_assoc, take, drop, get_or, Bool, true, false, cond, Some, None, refl, sym, ap, ◌∙◌, subst, arith}
 use Rattle.ch_base.specs.JsonTree.{Span, Plain, Tree, Items, no_items, item, Members, no_members, member}
 use Rattle.ch_base.specs.JsonTree as tree
-use Rattle.ch_base.specs.JsonText.{SpellsWithin, max_depth, is_blank}
+use Rattle.ch_base.specs.JsonText.{SpellsWithin, is_blank}
+use Rattle.ch_base.specs.declared.limits.TheConstants.{MAX_DEPTH}
 use Rattle.ch_json.specs.Front.{IsFront, IsLongestFront, IsTooDeep, IsSyntaxFault}
 use Rattle.ch_json.specs.Scalars.{InNumber, minus, NumberStep, more, stop, number_step, StringStep, ends, on, fault, string_step, may_end}
 use Rattle.ch_json.specs.Machine.{span, Frame, in_array, in_object, Mode, value, first_item, first_key, next_key, key, colon, word, number, string, after, Outcome, go, wrong, deep, open_bracket, start_number, start, after_step, in_word, string_outcome, key_outcome, number_outcome, step, run, begin, finish}
@@ -204,57 +205,57 @@ one_longest text a b h k =
     ]
 
 pub one_too_deep : (text : List ℕ) (a b : ℕ) → IsTooDeep text a → IsTooDeep text b → a ≡ b
-one_too_deep text a b h k = same_length max_depth text b a k.before k.here h.before h.here
+one_too_deep text a b h k = same_length MAX_DEPTH text b a k.before k.here h.before h.here
 
-pub syntax_at : (text : List ℕ) (at : ℕ) (m : Mode) (room : ℕ) (fs : List Frame) → at < length text → run (begin max_depth) 0 (take at text) ≡ go m room fs → step m room fs at (get_or text at 0) ≡ wrong → IsSyntaxFault text at
+pub syntax_at : (text : List ℕ) (at : ℕ) (m : Mode) (room : ℕ) (fs : List Frame) → at < length text → run (begin MAX_DEPTH) 0 (take at text) ≡ go m room fs → step m room fs at (get_or text at 0) ≡ wrong → IsSyntaxFault text at
 syntax_at text at m room fs inside before here =
-    let stops : run (begin max_depth) 0 (take (at + 1) text) ≡ wrong = read_more max_depth text at inside ∙ ap (λ o. next o at (get_or text at 0)) before ∙ here in
-    let no_front : IsFront max_depth (take (at + 1) text) → ⊥ = λ f. subst GoesOn stops (front_on max_depth (take (at + 1) text) f) in
+    let stops : run (begin MAX_DEPTH) 0 (take (at + 1) text) ≡ wrong = read_more MAX_DEPTH text at inside ∙ ap (λ o. next o at (get_or text at 0)) before ∙ here in
+    let no_front : IsFront MAX_DEPTH (take (at + 1) text) → ⊥ = λ f. subst GoesOn stops (front_on MAX_DEPTH (take (at + 1) text) f) in
     record {
-      none = λ v h. no_front (front_whole max_depth text (at + 1) v h);
+      none = λ v h. no_front (front_whole MAX_DEPTH text (at + 1) v h);
       longest = record {
         within = omega arith;
-        front = front_back max_depth (take at text) (goes _ m room fs before);
-        longest = λ n below le f. no_front (front_take max_depth text (at + 1) n (omega arith) f);
+        front = front_back MAX_DEPTH (take at text) (goes _ m room fs before);
+        longest = λ n below le f. no_front (front_take MAX_DEPTH text (at + 1) n (omega arith) f);
       };
       not_deep = λ n d.
-          let same : n ≡ at = same_length max_depth text at n (front_back max_depth (take at text) (goes _ m room fs before)) no_front d.before d.here in
-          let raised : Raised (run (begin max_depth) 0 (take (at + 1) text)) (run (begin (suc max_depth)) 0 (take (at + 1) text)) =
-          run_raised (begin max_depth) (begin (suc max_depth)) 0 (take (at + 1) text) refl (inr stops) in
-          let deeper : run (begin (suc max_depth)) 0 (take (at + 1) text) ≡ wrong = subst (λ o. Raised o (run (begin (suc max_depth)) 0 (take (at + 1) text))) stops raised in
-          subst GoesOn deeper (front_on (suc max_depth) (take (at + 1) text) (subst (λ k. IsFront (suc max_depth) (take (k + 1) text)) same d.deeper));
+          let same : n ≡ at = same_length MAX_DEPTH text at n (front_back MAX_DEPTH (take at text) (goes _ m room fs before)) no_front d.before d.here in
+          let raised : Raised (run (begin MAX_DEPTH) 0 (take (at + 1) text)) (run (begin (suc MAX_DEPTH)) 0 (take (at + 1) text)) =
+          run_raised (begin MAX_DEPTH) (begin (suc MAX_DEPTH)) 0 (take (at + 1) text) refl (inr stops) in
+          let deeper : run (begin (suc MAX_DEPTH)) 0 (take (at + 1) text) ≡ wrong = subst (λ o. Raised o (run (begin (suc MAX_DEPTH)) 0 (take (at + 1) text))) stops raised in
+          subst GoesOn deeper (front_on (suc MAX_DEPTH) (take (at + 1) text) (subst (λ k. IsFront (suc MAX_DEPTH) (take (k + 1) text)) same d.deeper));
     }
 
-pub syntax_at_end : (text : List ℕ) (m : Mode) (room : ℕ) (fs : List Frame) → run (begin max_depth) 0 text ≡ go m room fs → finish (length text) (go m room fs) ≡ None → IsSyntaxFault text (length text)
+pub syntax_at_end : (text : List ℕ) (m : Mode) (room : ℕ) (fs : List Frame) → run (begin MAX_DEPTH) 0 text ≡ go m room fs → finish (length text) (go m room fs) ≡ None → IsSyntaxFault text (length text)
 syntax_at_end text m room fs before here =
     record {
       none = λ v h.
-          let found : read_as max_depth text ≡ Some v = spelled_is_read max_depth text v h in
-          let none : read_as max_depth text ≡ None = ap (finish (length text)) before ∙ here in
+          let found : read_as MAX_DEPTH text ≡ Some v = spelled_is_read MAX_DEPTH text v h in
+          let none : read_as MAX_DEPTH text ≡ None = ap (finish (length text)) before ∙ here in
           absurd (cc);
       longest = record {
         within = omega arith;
-        front = subst (IsFront max_depth) (sym (take_all (length text) text (omega arith))) (front_back max_depth text (goes _ m room fs before));
+        front = subst (IsFront MAX_DEPTH) (sym (take_all (length text) text (omega arith))) (front_back MAX_DEPTH text (goes _ m room fs before));
         longest = λ n below le f. absurd (omega arith);
       };
       not_deep = λ n d.
-          let whole : IsFront max_depth (take (length text) text) = subst (IsFront max_depth) (sym (take_all (length text) text (omega arith))) (front_back max_depth text (goes _ m room fs before)) in
-          d.here (front_take max_depth text (n + 1) (length text) (omega (arith, d.inside)) whole);
+          let whole : IsFront MAX_DEPTH (take (length text) text) = subst (IsFront MAX_DEPTH) (sym (take_all (length text) text (omega arith))) (front_back MAX_DEPTH text (goes _ m room fs before)) in
+          d.here (front_take MAX_DEPTH text (n + 1) (length text) (omega (arith, d.inside)) whole);
     }
 
-pub deep_at : (text : List ℕ) (at : ℕ) (m : Mode) (room : ℕ) (fs : List Frame) → at < length text → run (begin max_depth) 0 (take at text) ≡ go m room fs → step m room fs at (get_or text at 0) ≡ deep → IsTooDeep text at
+pub deep_at : (text : List ℕ) (at : ℕ) (m : Mode) (room : ℕ) (fs : List Frame) → at < length text → run (begin MAX_DEPTH) 0 (take at text) ≡ go m room fs → step m room fs at (get_or text at 0) ≡ deep → IsTooDeep text at
 deep_at text at m room fs inside before here =
-    let stops : run (begin max_depth) 0 (take (at + 1) text) ≡ deep = read_more max_depth text at inside ∙ ap (λ o. next o at (get_or text at 0)) before ∙ here in
-    let raised : Raised (run (begin max_depth) 0 (take at text)) (run (begin (suc max_depth)) 0 (take at text)) =
-    run_raised (begin max_depth) (begin (suc max_depth)) 0 (take at text) refl (inl (goes _ m room fs before)) in
-    let above : run (begin (suc max_depth)) 0 (take at text) ≡ go m (suc room) fs = subst (λ o. Raised o (run (begin (suc max_depth)) 0 (take at text))) before raised in
+    let stops : run (begin MAX_DEPTH) 0 (take (at + 1) text) ≡ deep = read_more MAX_DEPTH text at inside ∙ ap (λ o. next o at (get_or text at 0)) before ∙ here in
+    let raised : Raised (run (begin MAX_DEPTH) 0 (take at text)) (run (begin (suc MAX_DEPTH)) 0 (take at text)) =
+    run_raised (begin MAX_DEPTH) (begin (suc MAX_DEPTH)) 0 (take at text) refl (inl (goes _ m room fs before)) in
+    let above : run (begin (suc MAX_DEPTH)) 0 (take at text) ≡ go m (suc room) fs = subst (λ o. Raised o (run (begin (suc MAX_DEPTH)) 0 (take at text))) before raised in
     let higher : GoesOn (step m (suc room) fs at (get_or text at 0)) = subst (λ o. Raised o (step m (suc room) fs at (get_or text at 0))) here (step_raised m room fs at (get_or text at 0)) in
-    let there : run (begin (suc max_depth)) 0 (take (at + 1) text) ≡ step m (suc room) fs at (get_or text at 0) =
-    read_more (suc max_depth) text at inside ∙ ap (λ o. next o at (get_or text at 0)) above in
+    let there : run (begin (suc MAX_DEPTH)) 0 (take (at + 1) text) ≡ step m (suc room) fs at (get_or text at 0) =
+    read_more (suc MAX_DEPTH) text at inside ∙ ap (λ o. next o at (get_or text at 0)) above in
     record {
       inside = inside;
       bracket = subst (Opens (get_or text at 0)) here (step_opens m room fs at (get_or text at 0));
-      before = front_back max_depth (take at text) (goes _ m room fs before);
-      here = λ f. subst GoesOn stops (front_on max_depth (take (at + 1) text) f);
-      deeper = front_back (suc max_depth) (take (at + 1) text) (subst GoesOn (sym there) higher);
+      before = front_back MAX_DEPTH (take at text) (goes _ m room fs before);
+      here = λ f. subst GoesOn stops (front_on MAX_DEPTH (take (at + 1) text) f);
+      deeper = front_back (suc MAX_DEPTH) (take (at + 1) text) (subst GoesOn (sym there) higher);
     }

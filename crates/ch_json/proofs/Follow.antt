@@ -13,7 +13,7 @@ use Rattle.ch_json.specs.Machine as spec
 use Rattle.ch_json.specs.Machine.{Outcome, go, wrong, deep, in_array, in_object, span, onto, onto_members}
 use Rattle.ch_json.specs.Document.{Nodes, plain, list, object, Shows, ShowsItems, ShowsMembers}
 use Rattle.ch_json.specs.Entries.{held, span_of, member_of}
-use Rattle.ch_json.specs.ReaderView.{ItemsSoFar, MembersSoFar, SeesFrames, IsArray, IsObject, SeesMode, Open, Sees, Follows, Ends, Added, Newest, nodes_of, opened}
+use Rattle.ch_json.specs.ReaderView.{ItemsSoFar, MembersSoFar, SeesFrames, IsArray, IsObject, SeesMode, Open, Sees, Follows, Ends, Added, Newest, nodes_of, brackets_open}
 use Rattle.ch_json.specs.declared.reader.Mode.{Mode}
 use Rattle.ch_json.specs.declared.reader.Mode.TheVariants as mode
 use Rattle.ch_json.specs.declared.reader.Frame.{Frame}
@@ -206,7 +206,7 @@ bracket_on : (room : ℕ) (m : spec.Mode) (fs : List spec.Frame) → 0 < room �
 bracket_on zero m fs h = absurd (omega arith)
 bracket_on (suc k) m fs h = ap (λ j. go m j fs) (omega arith)
 
-pub open_on : (r : Reader) (now : Mode) (room : ℕ) (m : spec.Mode) (fs : List spec.Frame) (at : ℕ) → Open r room fs 0 → length r.frames.items < 64 → SeesMode (nodes_of r) now m → opened now ≡ 1
+pub open_on : (r : Reader) (now : Mode) (room : ℕ) (m : spec.Mode) (fs : List spec.Frame) (at : ℕ) → Open r room fs 0 → length r.frames.items < 64 → SeesMode (nodes_of r) now m → brackets_open now ≡ 1
     → Follows at (Ok now) r (spec.open_bracket room m fs)
 open_on r now room m fs at open_ h sees one =
     let len = frames_len (nodes_of r) r.frames.items fs open_.frames in

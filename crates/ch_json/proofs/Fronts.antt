@@ -6,7 +6,7 @@ use Rattle.ch_base.specs.JsonTree as tree
 use Rattle.ch_base.specs.JsonText.{Blanks, Value, SpellsWithin}
 use Rattle.ch_json.specs.Front.{IsFront}
 use Rattle.ch_json.specs.Scalars.{minus, may_end, RestOfNumber}
-use Rattle.ch_json.specs.Machine.{span, Frame, in_array, in_object, Mode, value, first_item, first_key, next_key, key, colon, word, number, string, after, Outcome, go, wrong, deep, onto, onto_members, step, Goes, Made, AtValue, AtColon, AtKey, Completes, AfterStep, run, begin, finish}
+use Rattle.ch_json.specs.Machine.{span, Frame, in_array, in_object, Mode, value, first_item, first_key, next_key, key, colon, word, number, string, after, Outcome, go, wrong, deep, onto, onto_members, step, Goes, BehindValue, AtValue, AtColon, AtKey, Completes, AfterStep, run, begin, finish}
 use Rattle.ch_json.proofs.Choice.{either_way, when_so}
 use Rattle.ch_json.proofs.Strings.{string_end, string_ends, string_open}
 use Rattle.ch_json.proofs.Numbers.{number_end, number_completes, number_ends, number_at_end}
@@ -42,7 +42,7 @@ goes_closing n room (in_object from ms name ∷ fs) v h =
     let k = goes_closing n (suc room) fs (tree.object (onto_members ms (member name v no_members)) s) (omega arith) in
     (k.0, (no_members, closing fs, s, (125 ∷ closing fs, inl refl, refl), refl, omega arith, k.1))
 
-made_closing : (n room : ℕ) (fs : List Frame) (make : Span → Tree) (from : ℕ) → length (closing fs) ≤ n → (w : Tree) × Made n room fs make from (closing fs) w
+made_closing : (n room : ℕ) (fs : List Frame) (make : Span → Tree) (from : ℕ) → length (closing fs) ≤ n → (w : Tree) × BehindValue n room fs make from (closing fs) w
 made_closing n room fs make from h =
     let s = span from (n - length (closing fs)) in
     let k = goes_closing n room fs (make s) h in

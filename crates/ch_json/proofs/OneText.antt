@@ -2,7 +2,7 @@
 use Rattle.std.proofs.Common.{◌==◌, ◌≡◌, ℕ, List, [], ◌∷◌, ◌++◌, true, not, ◌&&◌, ◌||◌, refl, sym, ap, ap₂, ◌∙◌, subst}
 use Rattle.std.specs.Prelude.{flat_map}
 use Rattle.std.proofs.lemmas.Bool.{and_parts}
-use Rattle.ch_base.specs.JsonText.{is_unescaped, is_short, is_char, Char, byte, short, unit, pair, spelling, Chars, meaning, Unescapes, is_d, is_8_to_b, is_c_to_f}
+use Rattle.ch_base.specs.JsonText.{is_unescaped, is_short, is_char, Char, byte, short, unit, pair, spelling, Chars, char_bytes, Unescapes, is_d, is_8_to_b, is_c_to_f}
 
 pub no_quote : (x : ℕ) → is_unescaped x ≡ true → x ≡ 34 → ⊥
 no_quote x h e = let k = subst (λ y. is_unescaped y ≡ true) e h in cc k
@@ -103,4 +103,4 @@ pub one_text : (bytes v w : List ℕ) → Unescapes bytes v → Unescapes bytes 
 one_text bytes v w (cs, t, e, h, f) (ds, u, g, k, i) =
     let rest : u ≡ t = (tail_same 34 34 u t (sym g ∙ e)).1 in
     let same = (chars_same cs ds t [] [] h (subst (λ y. Chars ds y []) rest k)).0 in
-    f ∙ ap (flat_map meaning) same ∙ sym i
+    f ∙ ap (flat_map char_bytes) same ∙ sym i

@@ -4,14 +4,15 @@ use Rattle.std.specs.Prelude.{slice_get, IsUtf8}
 use Rattle.std.specs.Str.{IsCharBoundary}
 use Rattle.std.proofs.lemmas.Str.{IsCharBoundary-before_ascii, IsCharBoundary-after_ascii}
 use Rattle.ch_base.specs.JsonTree.{Span, Tree, plain, string, array, object, Items, no_items, item, Members, no_members, member}
-use Rattle.ch_base.specs.JsonText.{Stands, Value, Items_, MoreItems, Members_, MoreMembers, Spells, max_depth}
+use Rattle.ch_base.specs.JsonText.{IsSpanOf, Value, Items_, MoreItems, Members_, MoreMembers, Spells}
+use Rattle.ch_base.specs.declared.limits.TheConstants.{MAX_DEPTH}
 use Rattle.ch_json.specs.Parts.{spelled_at, items_of, members_of, values_of, names_of, IsSpelledIn, IsPart}
 use Rattle.ch_json.proofs.Lists.{some_back}
 use Rattle.ch_json.proofs.Cuts.{Cut, cut_on, string_cut, blanks_cut, sign_cut, value_cut, value_ends, value_begins}
 
 -- the whole value
 pub top_spelled : (text : List ℕ) (v : Tree) → Spells text v → IsSpelledIn text v
-top_spelled text v (m, k, before, val, behind) = let u = blanks_cut text m before in (max_depth, u.0, m, k, u.1, val)
+top_spelled text v (m, k, before, val, behind) = let u = blanks_cut text m before in (MAX_DEPTH, u.0, m, k, u.1, val)
 
 mutual
   more_items_spelled : (text : List ℕ) (room : ℕ) (vs : Items) (t r : List ℕ) (i : ℕ) (w : Tree) → Cut text t → MoreItems (length text) room vs t r → slice_get (items_of vs) i ≡ Some w → IsSpelledIn text w
@@ -80,7 +81,7 @@ name_spelled text (object ms t) s i h e =
 
 -- ---- a span may be cut out
 
-pub stands : (n room : ℕ) (v : Tree) (t r : List ℕ) → Value n room v t r → Stands n (spelled_at v) t r
+pub stands : (n room : ℕ) (v : Tree) (t r : List ℕ) → Value n room v t r → IsSpanOf n (spelled_at v) t r
 stands n room (plain p s) t r (st, h) = st
 stands n zero (array vs s) t r h = absurd h
 stands n (suc room) (array vs s) t r (st, h) = st

@@ -7,7 +7,7 @@ use Rattle.ch_base.specs.JsonTree as tree
 use Rattle.ch_base.specs.JsonText.{is_blank, Blanks, is_digit, is_digit_1_to_9, Value, Items_, MoreItems, Members_, MoreMembers, PlainValue, Chars}
 use Rattle.ch_json.specs.Scalars as scalars
 use Rattle.ch_json.specs.Scalars.{InString, chars, StringStep, ends, on, fault, string_step, RestOfString, AfterStringStep, InNumber, minus, NumberStep, more, stop, number_step, may_end, RestOfNumber, AfterNumberStep}
-use Rattle.ch_json.specs.Machine.{span, Frame, in_array, in_object, Mode, value, first_item, first_key, next_key, key, colon, word, number, string, after, Outcome, go, wrong, onto, onto_members, open_bracket, start_number, start, after_step, in_word, string_outcome, key_outcome, number_outcome, step, Goes, Made, AtValue, AtColon, AtKey, Completes, AfterStep}
+use Rattle.ch_json.specs.Machine.{span, Frame, in_array, in_object, Mode, value, first_item, first_key, next_key, key, colon, word, number, string, after, Outcome, go, wrong, onto, onto_members, open_bracket, start_number, start, after_step, in_word, string_outcome, key_outcome, number_outcome, step, Goes, BehindValue, AtValue, AtColon, AtKey, Completes, AfterStep}
 use Rattle.ch_json.proofs.Choice.{either_way, when_so, when_not}
 use Rattle.ch_json.proofs.Strings.{One-cons, same_eqb, string_on, string_back}
 use Rattle.ch_json.proofs.Numbers.{number_on, number_back, number_ends}
@@ -113,11 +113,11 @@ digit_not_special b h = record { quote = grind arith; bracket = grind arith; bra
 digit1_is_digit : (b : ℕ) → is_digit_1_to_9 b ≡ true → is_digit b ≡ true
 digit1_is_digit b h = grind arith
 
-number_go : (n room at : ℕ) (fs : List Frame) (x : NumberStep) (t k : List ℕ) (w : Tree) → AfterNumberStep x t k → Made n room fs (tree.plain tree.number) at k w → AfterStep n (start_number room at fs x) t w
+number_go : (n room at : ℕ) (fs : List Frame) (x : NumberStep) (t k : List ℕ) (w : Tree) → AfterNumberStep x t k → BehindValue n room fs (tree.plain tree.number) at k w → AfterStep n (start_number room at fs x) t w
 number_go n room at fs (more q) t k w h made = (k, h, made)
 number_go n room at fs stop t k w h made = absurd h
 
-digit_start : (n room : ℕ) (fs : List Frame) (at b : ℕ) (t k : List ℕ) (w : Tree) → is_digit b ≡ true → RestOfNumber minus (b ∷ t) k → Made n room fs (tree.plain tree.number) at k w → AfterStep n (start room fs at b) t w
+digit_start : (n room : ℕ) (fs : List Frame) (at b : ℕ) (t k : List ℕ) (w : Tree) → is_digit b ≡ true → RestOfNumber minus (b ∷ t) k → BehindValue n room fs (tree.plain tree.number) at k w → AfterStep n (start room fs at b) t w
 unfolding start
 digit_start n room fs at b t k w is h made =
     let no = digit_not_special b is in
@@ -280,7 +280,7 @@ goes_behind n room (in_array from vs ∷ fs) v b t w (item v2 vs2, r, s, (m, k, 
 goes_behind n room (in_object from ms name ∷ fs) v b t w (no_members, r, s, h, e, f, g) = byte_behind 125 b t r refl h
 goes_behind n room (in_object from ms name ∷ fs) v b t w (member name2 v2 ms2, r, s, (m, j1, j2, j3, h, x, y, z, u), e, f, g) = comma_behind b t m h
 
-number_after : (n : ℕ) (q : InNumber) (from room : ℕ) (fs : List Frame) (at b : ℕ) (t : List ℕ) (w : Tree) → at + length (b ∷ t) ≡ n → may_end q ≡ true → Made n room fs (tree.plain tree.number) from (b ∷ t) w
+number_after : (n : ℕ) (q : InNumber) (from room : ℕ) (fs : List Frame) (at b : ℕ) (t : List ℕ) (w : Tree) → at + length (b ∷ t) ≡ n → may_end q ≡ true → BehindValue n room fs (tree.plain tree.number) from (b ∷ t) w
     → AfterStep n (number_outcome q from at room fs b (number_step q b)) t w
 number_after n q from room fs at b t w size may (s, e, f, g) =
     let here : s ≡ span from at = span_is s from at e (omega arith) in
@@ -288,12 +288,12 @@ number_after n q from room fs at b t w size may (s, e, f, g) =
     subst (λ x. AfterStep n (number_outcome q from at room fs b x) t w) (sym stopped)
     (when_so (At n t w) (may_end q) _ wrong may (after_on n (tree.plain tree.number (span from at)) room fs at b t w size (subst (λ x. Goes n room fs (tree.plain tree.number x) (b ∷ t) w) here g)))
 
-number_goes : (n : ℕ) (q : InNumber) (from room : ℕ) (fs : List Frame) (at b : ℕ) (t r : List ℕ) (w : Tree) (x : NumberStep) → AfterNumberStep x t r → Made n room fs (tree.plain tree.number) from r w
+number_goes : (n : ℕ) (q : InNumber) (from room : ℕ) (fs : List Frame) (at b : ℕ) (t r : List ℕ) (w : Tree) (x : NumberStep) → AfterNumberStep x t r → BehindValue n room fs (tree.plain tree.number) from r w
     → AfterStep n (number_outcome q from at room fs b x) t w
 number_goes n q from room fs at b t r w (more next) h made = (r, h, made)
 number_goes n q from room fs at b t r w stop h made = absurd h
 
-string_goes : (n from : ℕ) (room : ℕ) (fs : List Frame) (at b : ℕ) (t r : List ℕ) (w : Tree) (x : StringStep) → at + length (b ∷ t) ≡ n → AfterStringStep x t r → Made n room fs (tree.plain tree.string) from r w
+string_goes : (n from : ℕ) (room : ℕ) (fs : List Frame) (at b : ℕ) (t r : List ℕ) (w : Tree) (x : StringStep) → at + length (b ∷ t) ≡ n → AfterStringStep x t r → BehindValue n room fs (tree.plain tree.string) from r w
     → AfterStep n (string_outcome from at room fs x) t w
 string_goes n from room fs at b t r w ends size h (s, e, f, g) =
     let here : s ≡ span from (at + 1) = span_is s from (at + 1) e (omega (arith, ap length h)) in
@@ -345,7 +345,7 @@ colon_on n room fs from ms name b t w (j, (m, inl same, (k, e, blanks)), h) =
     inl (cc, (j, subst (λ y. Blanks y j) behind blanks, h))
 colon_on n room fs from ms name b t w (j, (m, inr (is, h0), x), h) = inr (is, (j, (m, h0, x), h))
 
-word_goes : (n : ℕ) (p : Plain) (from : ℕ) (rest : List ℕ) (room : ℕ) (fs : List Frame) (at b : ℕ) (t r : List ℕ) (w : Tree) → at + length (b ∷ t) ≡ n → t ≡ rest ++ r → Made n room fs (tree.plain p) from r w
+word_goes : (n : ℕ) (p : Plain) (from : ℕ) (rest : List ℕ) (room : ℕ) (fs : List Frame) (at b : ℕ) (t r : List ℕ) (w : Tree) → at + length (b ∷ t) ≡ n → t ≡ rest ++ r → BehindValue n room fs (tree.plain p) from r w
     → AfterStep n (in_word p from at rest room fs) t w
 word_goes n p from [] room fs at b t r w size e (s, f, g, h) =
     let here : s ≡ span from (at + 1) = span_is s from (at + 1) f (omega (arith, ap length e)) in
@@ -401,7 +401,7 @@ step_on n (word p from c rest) room fs at b t w size (r, e, made) =
     when_so (At n t w) (b == c) _ wrong (rw same (same_eqb c)) (word_goes n p from rest room fs at b t r w size behind made)
 step_on n (number from q) room fs at b t w size (r, h, made) =
     elim (number_on q b t r h) [
-      | inl p ↦ number_after n q from room fs at b t w size p.0 (subst (λ y. Made n room fs (tree.plain tree.number) from y w) p.1 made)
+      | inl p ↦ number_after n q from room fs at b t w size p.0 (subst (λ y. BehindValue n room fs (tree.plain tree.number) from y w) p.1 made)
       | inr p ↦ number_goes n q from room fs at b t r w (number_step q b) p made
     ]
 step_on n (string from q) room fs at b t w size (r, h, made) = string_goes n from room fs at b t r w (string_step q b) size (string_on q b t r h) made
@@ -410,12 +410,12 @@ step_on n (after v) room fs at b t w size h = after_on n v room fs at b t w size
 -- ---- and back
 
 word_back : (n : ℕ) (p : Plain) (from : ℕ) (rest : List ℕ) (room : ℕ) (fs : List Frame) (at b : ℕ) (t : List ℕ) (w : Tree) → at + length (b ∷ t) ≡ n → AfterStep n (in_word p from at rest room fs) t w
-    → (r : List ℕ) × (t ≡ rest ++ r) × Made n room fs (tree.plain p) from r w
+    → (r : List ℕ) × (t ≡ rest ++ r) × BehindValue n room fs (tree.plain p) from r w
 word_back n p from [] room fs at b t w size h = (t, refl, (span from (at + 1), refl, omega arith, h))
 word_back n p from (c ∷ rest) room fs at b t w size h = h
 
 string_comes : (n from room : ℕ) (fs : List Frame) (at b : ℕ) (t : List ℕ) (w : Tree) (x : StringStep) → at + length (b ∷ t) ≡ n → AfterStep n (string_outcome from at room fs x) t w
-    → (r : List ℕ) × AfterStringStep x t r × Made n room fs (tree.plain tree.string) from r w
+    → (r : List ℕ) × AfterStringStep x t r × BehindValue n room fs (tree.plain tree.string) from r w
 string_comes n from room fs at b t w ends size h = (t, refl, (span from (at + 1), refl, omega arith, h))
 string_comes n from room fs at b t w (on q) size h = h
 string_comes n from room fs at b t w fault size h = absurd h
@@ -427,7 +427,7 @@ key_comes n from ms at_key room fs at b t w (on q) size h = h
 key_comes n from ms at_key room fs at b t w fault size h = absurd h
 
 number_comes : (n : ℕ) (q : InNumber) (from room : ℕ) (fs : List Frame) (at b : ℕ) (t : List ℕ) (w : Tree) (x : NumberStep) → at + length (b ∷ t) ≡ n → ((r : List ℕ) → AfterNumberStep x t r → RestOfNumber q (b ∷ t) r)
-    → AfterStep n (number_outcome q from at room fs b x) t w → (r : List ℕ) × RestOfNumber q (b ∷ t) r × Made n room fs (tree.plain tree.number) from r w
+    → AfterStep n (number_outcome q from at room fs b x) t w → (r : List ℕ) × RestOfNumber q (b ∷ t) r × BehindValue n room fs (tree.plain tree.number) from r w
 number_comes n q from room fs at b t w (more next) size back (r, h, made) = (r, back r h, made)
 number_comes n q from room fs at b t w stop size back h =
     either_way (At n t w) (may_end q) _ wrong

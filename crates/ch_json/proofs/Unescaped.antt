@@ -4,7 +4,7 @@ use Rattle.std.specs.Prelude.{flat_map, IsUtf8}
 use Rattle.std.specs.Str.{IsCharBoundary}
 use Rattle.std.proofs.lemmas.Str.{IsCharBoundary-after_ascii}
 use Rattle.ch_base.specs.JsonTree.{Span, plain, string}
-use Rattle.ch_base.specs.JsonText.{Char, spelling, Chars, meaning, Unescapes}
+use Rattle.ch_base.specs.JsonText.{Char, spelling, Chars, char_bytes, Unescapes}
 use Rattle.ch_json.specs.Parts.{part, IsSpelledIn}
 use Rattle.ch_json.specs.Pieces.{IsRest, GoesOn, IsString}
 use Rattle.ch_json.proofs.Lists.{drop_front, take_front}
@@ -15,7 +15,7 @@ pub record SoFar (bytes : List ℕ) (at : ℕ) (out : List ℕ) : Type 0 where
   pub chars : List Char
   pub follow : Chars chars (drop at bytes) []
   pub boundary : IsCharBoundary bytes at
-  pub whole : Unescapes bytes (out ++ flat_map meaning chars)
+  pub whole : Unescapes bytes (out ++ flat_map char_bytes chars)
 
 pub rest_of : (bytes : List ℕ) (at : ℕ) (out : List ℕ) → SoFar bytes at out → IsRest bytes at
 rest_of bytes at out h = record { chars = h.chars; follow = h.follow; boundary = h.boundary }
@@ -32,12 +32,12 @@ so_far_first bytes utf8 (w, (cs, t, e, h, f)) = record {
 -- one piece more
 pub so_far_more : (bytes : List ℕ) (at : ℕ) (out : List ℕ) (end : ℕ) (more new : List ℕ) (h : SoFar bytes at out) → GoesOn bytes at h.chars end more → new ≡ out ++ more → SoFar bytes end new
 so_far_more bytes at out end more new h g e =
-    let same : out ++ flat_map meaning h.chars ≡ new ++ flat_map meaning g.rest = ap (λ l. out ++ l) g.says ∙ sym (append_assoc out more (flat_map meaning g.rest)) ∙ ap (λ l. l ++ flat_map meaning g.rest) (sym e) in
+    let same : out ++ flat_map char_bytes h.chars ≡ new ++ flat_map char_bytes g.rest = ap (λ l. out ++ l) g.says ∙ sym (append_assoc out more (flat_map char_bytes g.rest)) ∙ ap (λ l. l ++ flat_map char_bytes g.rest) (sym e) in
     record { chars = g.rest; follow = g.follow; boundary = g.boundary; whole = subst (Unescapes bytes) same h.whole }
 
 -- at the closing quote
 pub so_far_end : (bytes : List ℕ) (at : ℕ) (out : List ℕ) (h : SoFar bytes at out) → h.chars ≡ [] → Unescapes bytes out
-so_far_end bytes at out h e = subst (Unescapes bytes) (ap (λ cs. out ++ flat_map meaning cs) e ∙ append-nil out) h.whole
+so_far_end bytes at out h e = subst (Unescapes bytes) (ap (λ cs. out ++ flat_map char_bytes cs) e ∙ append-nil out) h.whole
 
 -- ---- a name against it
 
@@ -59,17 +59,17 @@ cancel [] ys zs e = e
 cancel (x ∷ xs) ys zs e = cancel xs ys zs (cc)
 
 -- what is left of a name that the string has
-left_is : (bytes : List ℕ) (at : ℕ) (name left : List ℕ) (h : Matches bytes at name left) → Unescapes bytes name → left ≡ flat_map meaning h.so_far.chars
-left_is bytes at name left h u = cancel h.out left (flat_map meaning h.so_far.chars) (sym h.name_is ∙ one_text bytes name (h.out ++ flat_map meaning h.so_far.chars) u h.so_far.whole)
+left_is : (bytes : List ℕ) (at : ℕ) (name left : List ℕ) (h : Matches bytes at name left) → Unescapes bytes name → left ≡ flat_map char_bytes h.so_far.chars
+left_is bytes at name left h u = cancel h.out left (flat_map char_bytes h.so_far.chars) (sym h.name_is ∙ one_text bytes name (h.out ++ flat_map char_bytes h.so_far.chars) u h.so_far.whole)
 
 pub matches_end : (bytes : List ℕ) (at : ℕ) (name left : List ℕ) (h : Matches bytes at name left) → h.so_far.chars ≡ [] → left ≡ [] → Unescapes bytes name
 matches_end bytes at name left h none e = subst (Unescapes bytes) (sym (h.name_is ∙ ap (λ l. h.out ++ l) e ∙ append-nil h.out)) (so_far_end bytes at h.out h.so_far none)
 
 pub matches_over : (bytes : List ℕ) (at : ℕ) (name left : List ℕ) (h : Matches bytes at name left) → h.so_far.chars ≡ [] → Unescapes bytes name → left ≡ []
-matches_over bytes at name left h none u = left_is bytes at name left h u ∙ ap (flat_map meaning) none
+matches_over bytes at name left h none u = left_is bytes at name left h u ∙ ap (flat_map char_bytes) none
 
 pub matches_not : (bytes : List ℕ) (at : ℕ) (name left : List ℕ) (end : ℕ) (more : List ℕ) (h : Matches bytes at name left) → GoesOn bytes at h.so_far.chars end more → ((rest : List ℕ) → left ≡ more ++ rest → ⊥) → Unescapes bytes name → ⊥
-matches_not bytes at name left end more h g none u = none (flat_map meaning g.rest) (left_is bytes at name left h u ∙ g.says)
+matches_not bytes at name left end more h g none u = none (flat_map char_bytes g.rest) (left_is bytes at name left h u ∙ g.says)
 
 -- ---- the string of a span
 
@@ -91,4 +91,4 @@ string_of_span text s (room, before, m, k, e, (st, (cs, (j, open_, h)))) =
     let size : s.to - s.from ≡ length all = omega (arith, st.0, st.1) in
     let rest : drop s.from text ≡ all ++ k = ap₂ (λ (i : ℕ) (l : List ℕ). drop i l) from e ∙ drop_front before m ∙ split in
     let here : part text s ≡ all = ap₂ (λ (i : ℕ) (l : List ℕ). take i l) size rest ∙ take_front all k in
-    (flat_map meaning cs, (cs, u.0, here, u.2, refl))
+    (flat_map char_bytes cs, (cs, u.0, here, u.2, refl))

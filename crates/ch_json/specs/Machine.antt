@@ -3,7 +3,7 @@ use Rattle.std.specs.Prelude.{Option, Some, None, ◌≡◌, ◌⊎◌, ℕ, zer
 use Rattle.ch_base.specs.Grammar.{Byte, ◌then◌}
 use Rattle.ch_base.specs.JsonTree.{Span, Plain, Tree, Items, no_items, item, Members, no_members, member}
 use Rattle.ch_base.specs.JsonTree as tree
-use Rattle.ch_base.specs.JsonText.{is_blank, Blanks, Stands, String, Value, MoreItems, MoreMembers}
+use Rattle.ch_base.specs.JsonText.{is_blank, Blanks, IsSpanOf, String, Value, MoreItems, MoreMembers}
 use Rattle.ch_json.specs.Scalars.{InString, chars, StringStep, ends, on, fault, string_step, RestOfString, InNumber, minus, NumberStep, more, stop, number_step, may_end, RestOfNumber}
 
 abbrev pub span : ℕ → ℕ → Span
@@ -117,8 +117,8 @@ abbrev mutual
       × MoreMembers n room more t r × (s.from ≡ from) × (s.to + length r ≡ n) × Goes n (suc room) fs (tree.object (onto_members ms (member k v more)) s) r w
 
 -- behind a value from `from` to r
-abbrev pub Made : ℕ → ℕ → List Frame → (Span → Tree) → ℕ → List ℕ → Tree → Type 0
-Made n room fs make from r w = (s : Span) × (s.from ≡ from) × (s.to + length r ≡ n) × Goes n room fs (make s) r w
+abbrev pub BehindValue : ℕ → ℕ → List Frame → (Span → Tree) → ℕ → List ℕ → Tree → Type 0
+BehindValue n room fs make from r w = (s : Span) × (s.from ≡ from) × (s.to + length r ≡ n) × Goes n room fs (make s) r w
 
 -- a value comes at once
 abbrev pub AtValue : ℕ → ℕ → List Frame → List ℕ → Tree → Type 0
@@ -129,19 +129,19 @@ abbrev pub AtColon : ℕ → ℕ → List Frame → ℕ → Members → Span →
 AtColon n room fs from ms k t w = (j : List ℕ) × (Blanks then Byte 58 then Blanks) t j × AtValue n room (in_object from ms k ∷ fs) j w
 
 abbrev pub AtKey : ℕ → ℕ → List Frame → ℕ → Members → List ℕ → Tree → Type 0
-AtKey n room fs from ms t w = (m : List ℕ) × (name : Span) × (k : List ℕ) × Blanks t m × (Stands n name m k × String m k) × AtColon n room fs from ms name k w
+AtKey n room fs from ms t w = (m : List ℕ) × (name : Span) × (k : List ℕ) × Blanks t m × (IsSpanOf n name m k × String m k) × AtColon n room fs from ms name k w
 
 abbrev pub Completes : ℕ → Mode → ℕ → List Frame → List ℕ → Tree → Type 0
 Completes n value room fs t w = (m : List ℕ) × Blanks t m × AtValue n room fs m w
 Completes n (first_item from) room fs t w =
-    ((r : List ℕ) × (Blanks then Byte 93) t r × Made n (suc room) fs (tree.array no_items) from r w) ⊎ ((m : List ℕ) × Blanks t m × AtValue n room (in_array from no_items ∷ fs) m w)
-Completes n (first_key from) room fs t w = ((r : List ℕ) × (Blanks then Byte 125) t r × Made n (suc room) fs (tree.object no_members) from r w) ⊎ AtKey n room fs from no_members t w
+    ((r : List ℕ) × (Blanks then Byte 93) t r × BehindValue n (suc room) fs (tree.array no_items) from r w) ⊎ ((m : List ℕ) × Blanks t m × AtValue n room (in_array from no_items ∷ fs) m w)
+Completes n (first_key from) room fs t w = ((r : List ℕ) × (Blanks then Byte 125) t r × BehindValue n (suc room) fs (tree.object no_members) from r w) ⊎ AtKey n room fs from no_members t w
 Completes n (next_key from ms) room fs t w = AtKey n room fs from ms t w
 Completes n (key from ms at_key q) room fs t w = (name : Span) × (k : List ℕ) × (name.from ≡ at_key) × (name.to + length k ≡ n) × RestOfString q t k × AtColon n room fs from ms name k w
 Completes n (colon from ms k) room fs t w = AtColon n room fs from ms k t w
-Completes n (word p from c rest) room fs t w = (r : List ℕ) × (t ≡ c ∷ (rest ++ r)) × Made n room fs (tree.plain p) from r w
-Completes n (number from q) room fs t w = (r : List ℕ) × RestOfNumber q t r × Made n room fs (tree.plain tree.number) from r w
-Completes n (string from q) room fs t w = (r : List ℕ) × RestOfString q t r × Made n room fs (tree.plain tree.string) from r w
+Completes n (word p from c rest) room fs t w = (r : List ℕ) × (t ≡ c ∷ (rest ++ r)) × BehindValue n room fs (tree.plain p) from r w
+Completes n (number from q) room fs t w = (r : List ℕ) × RestOfNumber q t r × BehindValue n room fs (tree.plain tree.number) from r w
+Completes n (string from q) room fs t w = (r : List ℕ) × RestOfString q t r × BehindValue n room fs (tree.plain tree.string) from r w
 Completes n (after v) room fs t w = Goes n room fs v t w
 
 abbrev pub AfterStep : ℕ → Outcome → List ℕ → Tree → Type 0

@@ -3,7 +3,7 @@ use Rattle.std.specs.Prelude.{◌≡◌, ◌<◌, ◌≤◌, ◌+◌, ℕ, List,
 use Rattle.std.specs.List.{slice_range}
 use Rattle.std.specs.Char.{encode_utf8}
 use Rattle.std.specs.Str.{IsCharBoundary}
-use Rattle.ch_base.specs.JsonText.{Char, Chars, is_hex, meaning, Unescapes}
+use Rattle.ch_base.specs.JsonText.{Char, Chars, is_hex, char_bytes, Unescapes}
 use Rattle.ch_json.specs.declared.pieces.Piece.{Piece}
 use Rattle.ch_json.specs.declared.pieces.Piece.TheVariants.{End, Run, Escape}
 
@@ -20,7 +20,7 @@ pub record GoesOn (string : List ℕ) (at : ℕ) (cs : List Char) (end : ℕ) (b
   pub boundary : IsCharBoundary string end
   pub rest : List Char
   pub follow : Chars rest (drop end string) []
-  pub says : flat_map meaning cs ≡ bytes ++ flat_map meaning rest
+  pub says : flat_map char_bytes cs ≡ bytes ++ flat_map char_bytes rest
 
 abbrev pub IsPiece : List ℕ → ℕ → List Char → Piece → Type 0
 IsPiece string at cs End = cs ≡ []

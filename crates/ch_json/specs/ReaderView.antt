@@ -2,7 +2,7 @@
 use Rattle.std.specs.Prelude.{◌≡◌, ℕ, ◌+◌, List, [], ◌∷◌, ◌++◌, length, drop, map, Some, None, Result, Ok, Err}
 use Rattle.ch_base.specs.JsonTree as tree
 use Rattle.ch_base.specs.JsonTree.{Tree, Items, no_items, item, Members, no_members, member}
-use Rattle.ch_base.specs.JsonText.{max_depth}
+use Rattle.ch_base.specs.declared.limits.TheConstants.{MAX_DEPTH}
 use Rattle.ch_json.specs.Document.{Nodes, Shows}
 use Rattle.ch_json.specs.Machine as spec
 use Rattle.ch_json.specs.Machine.{Outcome, go, wrong, deep, in_array, in_object}
@@ -62,17 +62,17 @@ SeesMode ds (mode.Str from q) m = m ≡ spec.string from (in_string_of q)
 SeesMode ds (mode.After k) m = (v : Tree) × (m ≡ spec.after v) × Shows ds k v
 
 -- the bracket that is open and in no frame
-abbrev pub opened : Mode → ℕ
-opened mode.Value = 0
-opened (mode.FirstItem from) = 1
-opened (mode.FirstKey from) = 1
-opened (mode.NextKey from v) = 1
-opened (mode.Key from v at q) = 1
-opened (mode.Colon from v k) = 1
-opened (mode.Word p from n) = 0
-opened (mode.Number from q) = 0
-opened (mode.Str from q) = 0
-opened (mode.After k) = 0
+abbrev pub brackets_open : Mode → ℕ
+brackets_open mode.Value = 0
+brackets_open (mode.FirstItem from) = 1
+brackets_open (mode.FirstKey from) = 1
+brackets_open (mode.NextKey from v) = 1
+brackets_open (mode.Key from v at q) = 1
+brackets_open (mode.Colon from v k) = 1
+brackets_open (mode.Word p from n) = 0
+brackets_open (mode.Number from q) = 0
+brackets_open (mode.Str from q) = 0
+brackets_open (mode.After k) = 0
 
 abbrev pub nodes_of : Reader → Nodes
 nodes_of r = map held r.entries.items
@@ -80,11 +80,11 @@ nodes_of r = map held r.entries.items
 -- the reader's open brackets, with room for so many more
 pub record Open (r : Reader) (room : ℕ) (fs : List spec.Frame) (more : ℕ) : Type 0 where
   pub frames : SeesFrames (nodes_of r) r.frames.items fs
-  pub count : room + more + length fs ≡ max_depth
+  pub count : room + more + length fs ≡ MAX_DEPTH
 
 pub record Sees (r : Reader) (now : Mode) (m : spec.Mode) (room : ℕ) (fs : List spec.Frame) : Type 0 where
   pub mode : SeesMode (nodes_of r) now m
-  pub brackets : Open r room fs (opened now)
+  pub brackets : Open r room fs (brackets_open now)
 
 -- what a step returned is what the grammar says
 abbrev pub Follows : ℕ → Result Mode JsonError → Reader → Outcome → Type 0

@@ -1,7 +1,8 @@
 //! What holds of every text.
 ghost use Rattle.std.specs.Prelude.{◌≡◌, ◌≤◌, ℕ, List};
 ghost use Rattle.ch_base.specs.JsonTree.{Tree, Members};
-ghost use Rattle.ch_base.specs.JsonText.{Spells, SpellsWithin, Unescapes, max_depth};
+ghost use Rattle.ch_base.specs.JsonText.{Spells, SpellsWithin, Unescapes};
+ghost use Rattle.ch_base.specs.declared.limits.TheConstants.{MAX_DEPTH};
 ghost use Rattle.ch_json.specs.Levels.{levels};
 ghost use Rattle.ch_json.specs.Named.{Named};
 ghost use Rattle.ch_json.specs.Parts.{part, spelled_at, IsSpelledIn};
@@ -28,7 +29,7 @@ pub fn value_alone()
         (w : Tree) × SpellsWithin (levels v) (part text (spelled_at v)) w }
 {}
 
-/// A JSON text has at most 64 levels.
+/// A JSON text has at most `MAX_DEPTH` levels.
 pub fn most_levels()
-    ensures { (text : List ℕ) (v : Tree) → Spells text v → levels v ≤ max_depth }
+    ensures { (text : List ℕ) (v : Tree) → Spells text v → levels v ≤ MAX_DEPTH }
 {}

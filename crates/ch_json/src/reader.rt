@@ -7,7 +7,7 @@ ghost use Rattle.ch_json.specs.Entries.{span_of, plain_of, member_of};
 ghost use Rattle.ch_json.specs.Machine.{Frame as SpecFrame, Mode as SpecMode, start, after_step, step, go, in_array, in_object, open_bracket};
 ghost use Rattle.ch_json.specs.Machine as spec;
 ghost use Rattle.ch_json.specs.States.{in_string_of, in_number_of};
-ghost use Rattle.ch_json.specs.ReaderView.{Open, Sees, SeesMode, Follows, Ends, Adds, Added, opened, nodes_of, letters_of, MembersSoFar, ItemsSoFar};
+ghost use Rattle.ch_json.specs.ReaderView.{Open, Sees, SeesMode, Follows, Ends, Adds, Added, brackets_open, nodes_of, letters_of, MembersSoFar, ItemsSoFar};
 
 use crate::classes::is_blank_byte;
 use crate::entry::{Content, Entry, Member, Plain};
@@ -15,10 +15,8 @@ use crate::error::JsonError;
 use crate::number_state::{InNumber, NumberStep, after_number_byte, number_may_end};
 use crate::span::Span;
 use crate::string_state::{InString, StringStep, after_string_byte};
+use ch_base::MAX_DEPTH;
 use std::alloc::Global;
-
-/// How many brackets may be open.
-const MAX_DEPTH: usize = 64;
 
 /// An open bracket: where it stands, and what it has so far; an object's key whose value comes.
 #[derive(Debug, Drop)]
@@ -116,7 +114,7 @@ impl Reader {
     /// Goes on behind an opening bracket, unless it is one too many.
     fn open(&self, at: u64, mode: Mode) -> Result<Mode, JsonError>
         ensures { (m : SpecMode) (room : ℕ) (fs : List SpecFrame) → Open self.now room fs 0 →
-            SeesMode (nodes_of self.now) mode m → opened mode ≡ 1 → Follows at result self.now (open_bracket room m fs) }
+            SeesMode (nodes_of self.now) mode m → brackets_open mode ≡ 1 → Follows at result self.now (open_bracket room m fs) }
     {
         if self.frames.len() >= MAX_DEPTH {
             return Err(JsonError::Deep(at));

@@ -17,7 +17,7 @@ use Rattle.ch_base.specs.declared.user.UserCall.TheVariants as user
 use Rattle.ch_history.specs.Entries.{UserEntry, UserHistory}
 use Rattle.ch_history.specs.OpenRows.{open_rows, unsettled}
 use Rattle.ch_history.specs.SignIns.{begins_watch, is_signed_in, is_watching, sign_ins, sign_settles, signs_in, watch_settles, watches}
-use Rattle.ch_history.specs.Subscriptions.{is_joined, opened, settles, subscriptions}
+use Rattle.ch_history.specs.Subscriptions.{is_joined, opened_by, settles, subscriptions}
 use Rattle.ch_history.specs.declared.rows.UserSocket.{UserSocket}
 use Rattle.ch_protocol.specs.Settling.{SettledAsk, holds, is_on_chan, is_on_user, uses_chan, uses_user}
 use Rattle.ch_protocol.specs.declared.ask.Ask.TheVariants.{Chan, User}
@@ -151,7 +151,7 @@ module _ (e : Ended) (alone : IsAloneWithNumber e) (later : IsLater e.old e.new)
       let x = entry e.old.caller (chan.Lost e.session.number lost.0) lost.1 in
       let more : e.new.chans k ≡ e.old.chans k ++ (lost.2.0 ++ x ∷ lost.2.1) = lost.2.2 ∙ append_assoc (e.old.chans k) lost.2.0 (x ∷ lost.2.1) in
       subst (λ h. All (λ r. r.socket ≢ e.session.number) (subscriptions h)) (sym lost.2.2)
-      (none_after opened settles (λ r. r.socket) e.session.number (e.old.chans k ++ lost.2.0) lost.2.1 x
+      (none_after opened_by settles (λ r. r.socket) e.session.number (e.old.chans k ++ lost.2.0) lost.2.1 x
       (λ r mine. eq-eqb r.socket e.session.number mine)
       (all_back (λ y. OpensFor e.session.number y → ⊥) lost.2.0 (x ∷ lost.2.1) (alone.no_more k (lost.2.0 ++ x ∷ lost.2.1) more)))
 
@@ -159,7 +159,7 @@ module _ (e : Ended) (alone : IsAloneWithNumber e) (later : IsLater e.old e.new)
   chan_unused unused =
       let grew = later.chans k in
       subst (λ h. All (λ r. r.socket ≢ e.session.number) (subscriptions h)) (sym grew.1)
-      (none_open opened settles (λ r. r.socket) e.session.number (e.old.chans k ++ grew.0)
+      (none_open opened_by settles (λ r. r.socket) e.session.number (e.old.chans k ++ grew.0)
       (All-append (λ y. OpensFor e.session.number y → ⊥) (e.old.chans k) grew.0
       (All-weaker (λ y. OpensFor e.session.number y → WasSettled e.asks (Chan k y.call) (made.Chan y.answer)) (λ y. OpensFor e.session.number y → ⊥)
       (λ y settled opens. false≢true (sym unused ∙ chan_used e.asks k y.call y.answer (settled opens)

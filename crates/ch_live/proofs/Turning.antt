@@ -15,7 +15,7 @@ use Rattle.ch_net.specs.declared.wire.Message.{Message}
 use Rattle.ch_net.proofs.Moving.{WireMoves-then}
 use Rattle.ch_base.specs.Printed.{printed}
 use Rattle.ch_protocol.specs.Settling.{SettledAsk}
-use Rattle.ch_session.specs.Kept.{Kept, IsSession, IsOver}
+use Rattle.ch_session.specs.Kept.{Kept, IsSession, HasShardsOf}
 use Rattle.ch_live.specs.Answers.{TurnHasCause, last_texts, closing_codes, LastHasCause}
 use Rattle.ch_live.specs.Backlogs.{Held, marked, still_waiting, all_delivered}
 use Rattle.ch_live.specs.Connections.{Connected, ends_at_once, looked_at, ticked}
@@ -47,8 +47,8 @@ looked_stands now c start number asks is =
 pub looked_start : (now : ℕ) (c : Connected) → (looked_at now c).session.start ≡ c.session.start
 looked_start now c = ap (λ (s : Kept). s.start) (looked_session now c)
 
-pub looked_over : (now : ℕ) (c : Connected) (config : Config) → IsOver c.session config → IsOver (looked_at now c).session config
-looked_over now c config over = subst (λ s. IsOver s config) (sym (looked_session now c)) (record { chans = over.chans; shards = over.shards })
+pub looked_over : (now : ℕ) (c : Connected) (config : Config) → HasShardsOf c.session config → HasShardsOf (looked_at now c).session config
+looked_over now c config over = subst (λ s. HasShardsOf s config) (sym (looked_session now c)) (record { chans = over.chans; shards = over.shards })
 
 -- ---- small facts
 
@@ -264,8 +264,8 @@ module _ (config : Config) (now : ℕ) (old : Connected) (session : Kept) (backl
       (subst (λ k. Listens config now moved (record { connection = record { session = k; backlog = held }; wire = mid; desk = desk })
       (record { connection = new; wire = wire_new; desk = desk_new }) result) is_session l)
 
-pub course_over : (config : Config) (now : ℕ) (c : Course) (old new : Scene) (r : Turn) → TakesCourse config now c old new r → IsOver old.connection.session config
-    → IsOver new.connection.session config
+pub course_over : (config : Config) (now : ℕ) (c : Course) (old new : Scene) (r : Turn) → TakesCourse config now c old new r → HasShardsOf old.connection.session config
+    → HasShardsOf new.connection.session config
 course_over config now c old new r t over = record { chans = ap (λ (s : Kept). s.chans) t.same ∙ over.chans; shards = t.used ∙ over.shards }
 
 -- ---- the turn of any live socket

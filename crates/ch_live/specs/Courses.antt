@@ -1,6 +1,7 @@
 -- What happens in a turn.
 use Rattle.std.specs.Prelude.{◌≡◌, ◌≢◌, ◌⊎◌, ℕ, List, [], ◌∷◌, Option, Some, None}
 use Rattle.ch_base.specs.declared.frame.Frame.{Frame}
+use Rattle.ch_base.specs.declared.error_codes.TheConstants.{MALFORMED_MESSAGE}
 use Rattle.ch_dispatch.specs.Messages.{Answers}
 use Rattle.ch_io.specs.Counts.{Rose}
 use Rattle.ch_io.specs.declared.counts.Counts.{Counts}
@@ -27,7 +28,7 @@ pub record Course : Type 0 where
 -- what the message that was received comes to, if there is one; a binary one is refused
 abbrev pub AnswersTo : Session → Option Message → List Asked → List Settled → Type 0
 AnswersTo s None asked outcomes = (asked ≡ []) × (outcomes ≡ [])
-AnswersTo s (Some Binary) asked outcomes = (asked ≡ []) × (outcomes ≡ Refuse 4310 ∷ [])
+AnswersTo s (Some Binary) asked outcomes = (asked ≡ []) × (outcomes ≡ Refuse MALFORMED_MESSAGE ∷ [])
 AnswersTo s (Some (Text text)) asked outcomes = Answers s text asked outcomes
 
 -- The answer of a turn, by the code with which it ends by itself, if it does: that of a mark, of silence, or of its message.

@@ -9,7 +9,7 @@ use Rattle.ch_desk.specs.OwnEntries.{entries_on_chan, entries_on_user}
 use Rattle.ch_desk.specs.Views.{DeskView}
 use Rattle.ch_history.specs.Entries.{ChanEntry, UserEntry}
 use Rattle.ch_history.specs.SignIns.{begins_watch, sign_ins, signs_in, watches}
-use Rattle.ch_history.specs.Subscriptions.{opened, subscriptions}
+use Rattle.ch_history.specs.Subscriptions.{opened_by, subscriptions}
 use Rattle.ch_history.specs.declared.rows.Subscription.{Subscription}
 use Rattle.ch_history.specs.declared.rows.UserSocket.{UserSocket}
 use Rattle.ch_protocol.specs.Asks.{asks_of}
@@ -81,7 +81,7 @@ LossesStand = OfLosses (λ calls e. AllAreMade calls e
 
 -- the entry opens a subscription of the socket
 abbrev pub OpensFor : ℕ → ChanEntry → Type 0
-OpensFor socket e = (r : Subscription) × (opened e ≡ Some r) × (r.socket ≡ socket)
+OpensFor socket e = (r : Subscription) × (opened_by e ≡ Some r) × (r.socket ≡ socket)
 
 -- the entry signs the socket in, or begins a watch of it
 abbrev pub SignsFor : ℕ → UserEntry → Type 0

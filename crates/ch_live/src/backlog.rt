@@ -2,20 +2,13 @@ ghost use Rattle.std.specs.Prelude.{◌≡◌, [], false, if◌then◌else◌, I
 ghost use Rattle.std.specs.Option.{option_copied};
 ghost use Rattle.ch_live.specs.Backlogs.{is_cut, delivered, marked};
 
+use crate::limits::MOST_FRAMES;
 use crate::turn::Delivered;
 use crate::waiting::Waiting;
-use ch_base::Memory;
+use ch_base::{Memory, OVER_CAPACITY, UNAUTHORIZED};
 use circular_buffer::HeapCircularBuffer;
 use std::alloc::Global;
 use std::marker::Model;
-
-/// So many frames wait at most.
-const MOST_FRAMES: usize = 1_024;
-
-/// The codes with which a marked connection ends (Pusher Channels protocol, "Error codes").
-const KILLED: u16 = 4009;
-
-const CUT: u16 = 4100;
 
 /// The frames that wait for a socket, with all the room that there will be, and the marks that end its
 /// connection.
@@ -28,13 +21,14 @@ pub struct Backlog {
 
 impl Model for Backlog {
     ghost use Rattle.std.specs.Prelude.{◌≡◌};
-    ghost use Rattle.ch_live.specs.Backlogs.{Held, most_frames};
+    ghost use Rattle.ch_live.specs.Backlogs.{Held};
+    ghost use Rattle.ch_live.specs.declared.limits.TheConstants.{MOST_FRAMES};
 
     ghost Value = { Held };
 
     ghost view = { λ b. record { frames = b.frames.items; killed = b.killed; cut = b.cut } };
 
-    ghost invariant = { λ b. b.frames.capacity ≡ most_frames };
+    ghost invariant = { λ b. b.frames.capacity ≡ MOST_FRAMES };
 }
 
 impl Backlog {
@@ -74,9 +68,9 @@ impl Backlog {
         ensures { result ≡ marked self.now }
     {
         if self.killed {
-            Some(KILLED)
+            Some(UNAUTHORIZED)
         } else if self.cut {
-            Some(CUT)
+            Some(OVER_CAPACITY)
         } else {
             None
         }

@@ -6,10 +6,10 @@ ghost use Rattle.ch_history.specs.Limits.{IsMoment};
 ghost use Rattle.ch_live.specs.Backlogs.{delivered, is_cut};
 ghost use Rattle.ch_live.specs.Connections.{ends_at_once, looked_at};
 ghost use Rattle.ch_live.specs.Courses.{Course};
-ghost use Rattle.ch_live.specs.Peers.{opened};
+ghost use Rattle.ch_live.specs.Peers.{connection_of};
 ghost use Rattle.ch_live.specs.Turns.{TakesCourse};
 ghost use Rattle.ch_protocol.specs.Asks.{Asked};
-ghost use Rattle.ch_session.specs.Kept.{IsOver};
+ghost use Rattle.ch_session.specs.Kept.{HasShardsOf};
 ghost use Rattle.ch_session.specs.declared.waiting.Waiting.TheVariants.{Nothing};
 
 use crate::backlog::Backlog;
@@ -18,7 +18,7 @@ use crate::receiving::moved_or_idle;
 use crate::sending::{Sending, send_on};
 use crate::turn::{Delivered, End, Turn};
 use crate::waiting::Waiting;
-use ch_base::{Frame, Memory};
+use ch_base::{Frame, Memory, NO_PONG};
 use ch_config::Config;
 use ch_desk::Desk;
 use ch_dispatch::lose;
@@ -27,10 +27,6 @@ use ch_rate::Due;
 use ch_session::Session;
 use std::alloc::Global;
 use std::marker::Model;
-
-/// The code with which a connection ends whose ping wasn't answered (Pusher Channels protocol, "Error
-/// codes").
-const EXPIRED: u16 = 4201;
 
 /// An open connection: its session, of which no ask waits to be settled, and what waits for its socket.
 #[derive(Drop)]
@@ -57,7 +53,7 @@ impl Connection {
     /// frames.
     pub(crate) fn new(alloc: Global, session: Session) -> Result<Connection, Session>
         requires idle { session.waits ≡ Nothing }
-        ensures opened { IfOk result (λ c. c ≡ opened session) }
+        ensures opened { IfOk result (λ c. c ≡ connection_of session) }
         ensures memory { IfErr result (λ given. given ≡ session) }
     {
         let Ok(mut backlog) = Backlog::new(alloc) else {
@@ -92,12 +88,12 @@ impl Connection {
     ) -> Turn
         requires config { IsConfig config.now }
         requires desk { IsDeskOf config.now (D.view desk.old) }
-        requires over { IsOver self.old.session config.now }
+        requires over { HasShardsOf self.old.session config.now }
         requires now { IsMoment now }
         ensures course { (course : Course) × TakesCourse config.now now course
             (record { connection = self.old; wire = W.told wire.old; desk = D.view desk.old })
             (record { connection = self.new; wire = W.told wire.new; desk = D.view desk.new }) result }
-        ensures over { IsOver self.new.session config.now }
+        ensures over { HasShardsOf self.new.session config.now }
     {
         if let Some(code) = self.look(now) {
             return end_with(self.alloc, wire, code);
@@ -130,7 +126,7 @@ impl Connection {
                 self.backlog.deliver(Waiting::alone(Frame::Ping));
                 None
             }
-            Due::Expired => Some(EXPIRED),
+            Due::Expired => Some(NO_PONG),
         }
     }
 

@@ -21,7 +21,7 @@ pub fn idle_turns()
 {}
 
 /// A connection that is marked ends with the code of its mark, a Kill's before that of a cut, and one whose
-/// ping wasn't answered with 4201.
+/// ping wasn't answered with `NO_PONG`.
 pub fn marks_end()
     ensures { MarksEnd }
 {}

@@ -7,7 +7,7 @@ ghost use Rattle.ch_history.specs.Limits.{IsMoment};
 ghost use Rattle.ch_live.specs.Answers.{TurnHasCause};
 ghost use Rattle.ch_live.specs.Courses.{Course};
 ghost use Rattle.ch_live.specs.Losses.{MayLose, Loses, Owes};
-ghost use Rattle.ch_live.specs.Peers.{delivered_to, finds_no_room, IsPeerOver, opened};
+ghost use Rattle.ch_live.specs.Peers.{delivered_to, finds_no_room, IsPeerOver, connection_of};
 ghost use Rattle.ch_live.specs.Turns.{IsTurn};
 ghost use Rattle.ch_live.specs.declared.peer.Peer.TheVariants as peer;
 ghost use Rattle.ch_protocol.specs.Asks.{Asked};
@@ -26,7 +26,7 @@ use ch_session::Session;
 use std::alloc::Global;
 use std::sync::Arc;
 
-/// A live socket: its wire, and who it is. A moment is a number of milliseconds, at most 10^15.
+/// A live socket: its wire, and who it is. A moment is a number of milliseconds, at most `LATEST_MOMENT`.
 #[derive(Drop)]
 pub struct Live<W> {
     alloc: Global,
@@ -46,7 +46,7 @@ impl<W> Live<W> {
     /// waits tells the socket's id (Pusher Channels protocol, "Connection events").
     pub fn new(alloc: Global, session: Session, wire: W) -> Result<Live<W>, Unlive<W>>
         requires idle { session.waits ≡ Nothing }
-        ensures opened { IfOk result (λ live. live.peer ≡ peer.Open (opened session)) }
+        ensures opened { IfOk result (λ live. live.peer ≡ peer.Open (connection_of session)) }
         ensures wire { IfOk result (λ live. live.wire ≡ wire) }
         ensures memory { IfErr result (λ given. (given.session ≡ session) × (given.wire ≡ wire)) }
     {
@@ -73,8 +73,8 @@ impl<W> Live<W> {
     }
 
     /// Delivers a frame. It waits where a session was opened and fewer than 1,024 frames wait. One that finds
-    /// no room ends the connection at the next turn, with 4100. A Kill doesn't wait, and ends it so too, with
-    /// 4009. It takes no memory.
+    /// no room ends the connection at the next turn, with `OVER_CAPACITY`. A Kill doesn't wait, and ends it so
+    /// too, with `UNAUTHORIZED`. It takes no memory.
     pub fn deliver(&mut self, frame: Frame) -> Delivered
         ensures peer { self.new.peer ≡ delivered_to self.old.peer frame }
         ensures cut { result ≡ (if finds_no_room self.old.peer frame then Delivered.Cut else Delivered.Kept) }

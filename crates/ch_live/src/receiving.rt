@@ -7,7 +7,7 @@ ghost use Rattle.ch_live.specs.Backlogs.{all_delivered};
 ghost use Rattle.ch_live.specs.Answers.{last_texts, closing_codes, LastHasCause};
 ghost use Rattle.ch_live.specs.Listening.{Listens, HearsMessage, IsTurnBy};
 ghost use Rattle.ch_net.specs.Wires.{WireMoves};
-ghost use Rattle.ch_session.specs.Kept.{IsOver};
+ghost use Rattle.ch_session.specs.Kept.{HasShardsOf};
 ghost use Rattle.ch_session.specs.declared.waiting.Waiting.TheVariants.{Nothing};
 
 use crate::backlog::Backlog;
@@ -36,7 +36,7 @@ impl Connection {
     ) -> Turn
         requires config { IsConfig config.now }
         requires desk { IsDeskOf config.now (D.view desk.old) }
-        requires over { IsOver self.old.session config.now }
+        requires over { HasShardsOf self.old.session config.now }
         requires now { IsMoment now }
         ensures { Listens config.now now moved
             (record { connection = self.old; wire = W.told wire.old; desk = D.view desk.old })
@@ -64,7 +64,7 @@ impl Connection {
     ) -> Turn
         requires config { IsConfig config.now }
         requires desk { IsDeskOf config.now (D.view desk.old) }
-        requires over { IsOver self.old.session config.now }
+        requires over { HasShardsOf self.old.session config.now }
         requires now { IsMoment now }
         ensures heard { (code : Option ℕ) × IsTurnBy code result
             × HearsMessage config.now now message self.old self.new (D.view desk.old) (D.view desk.new) code }
@@ -89,7 +89,7 @@ fn hear_message<R, D: Desk<R>>(
 ) -> Option<u16>
     requires config { IsConfig config.now }
     requires desk { IsDeskOf config.now (D.view desk.old) }
-    requires over { IsOver session.old config.now }
+    requires over { HasShardsOf session.old config.now }
     requires idle { session.old.waits ≡ Nothing }
     requires now { IsMoment now }
     ensures heard { HearsMessage config.now now message (record { session = session.old; backlog = backlog.old })

@@ -1,3 +1,4 @@
 pub mod Computed
 pub mod FaultLemmas
 pub mod SocketIdLemmas
+pub mod UserChannelLemmas

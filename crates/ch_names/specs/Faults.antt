@@ -2,6 +2,7 @@
 use Rattle.std.specs.Prelude.{ℕ, ◌==◌, nat_lt, List, length, not, Option, None, Some, option_map, if◌then◌else◌}
 use Rattle.std.specs.List.{position_from}
 use Rattle.std.specs.Option.{option_or}
+use Rattle.ch_history.specs.declared.limits.TheConstants.{MAX_NAME}
 use Rattle.ch_history.specs.ChannelName.{is_name_byte}
 use Rattle.ch_names.specs.declared.fault.NameFault.{NameFault}
 use Rattle.ch_names.specs.declared.fault.NameFault.TheVariants.{Empty, Long, Byte}
@@ -17,4 +18,4 @@ alphabet_fault name = option_map Byte (position_from (λ x. not (is_name_byte x)
 
 -- why it isn't the name of a channel
 abbrev pub name_fault : List ℕ → Option NameFault
-name_fault name = option_or (length_fault 200 name) (alphabet_fault name)
+name_fault name = option_or (length_fault MAX_NAME name) (alphabet_fault name)

@@ -3,7 +3,7 @@ use Rattle.std.proofs.Common.{◌≡◌, ℕ, ◌+◌, Bool, false, List, [], �
 use Rattle.std.specs.Prelude.{Option, None, MatchBool, nat_lt}
 use Rattle.ch_config.specs.declared.config.Config.{Config}
 use Rattle.ch_transcript.specs.Commands.{line_of}
-use Rattle.ch_transcript.specs.Lines.{longest_line}
+use Rattle.ch_transcript.specs.declared.limits.TheConstants.{LONGEST_LINE}
 use Rattle.ch_transcript.specs.Printing.{error_line, long_line}
 use Rattle.ch_transcript.specs.Obeying.{Sense}
 use Rattle.ch_transcript.specs.Outcomes.{played_as, MeansAs, Plays, Outcome, ends, after_text, Follows, OutcomeFrom}
@@ -29,7 +29,7 @@ unfoldable pub AllMean : Config → Progress → List (List ℕ) → List Sense 
 AllMean config p [] senses = Unit {0}
 AllMean config p (line ∷ lines) [] = ⊥
 AllMean config p (line ∷ lines) (s ∷ senses) =
-    (nat_lt longest_line (length line) ≡ false) × MeansAs config p (line_of line) s × MeanAfter (played_as config p (line_of line) s) (λ q. AllMean config q lines senses)
+    (nat_lt LONGEST_LINE (length line) ≡ false) × MeansAs config p (line_of line) s × MeanAfter (played_as config p (line_of line) s) (λ q. AllMean config q lines senses)
 
 followed : (n : ℕ) (More : Progress → Outcome → Type 0) (Mean : Progress → Type 0) (more : Progress → Outcome) → ((q : Progress) → Mean q → More q (more q))
     → (x : Option Played) → MeanAfter x Mean → Follows n More x (ran n x more)

@@ -4,7 +4,8 @@ use Rattle.std.specs.Prelude.{Option, None, MatchBool, ◌&&◌, nat_le, nat_lt,
 use Rattle.ch_config.specs.declared.config.Config.{Config}
 use Rattle.ch_transcript.specs.Commands.{line_of}
 use Rattle.ch_transcript.specs.Joining.{join_text, sign_in_text}
-use Rattle.ch_transcript.specs.Lines.{longest_line, lines_of}
+use Rattle.ch_transcript.specs.Lines.{lines_of}
+use Rattle.ch_transcript.specs.declared.limits.TheConstants.{LONGEST_LINE}
 use Rattle.ch_transcript.specs.Printing.{long_line}
 use Rattle.ch_transcript.specs.Requests.{api_bytes}
 use Rattle.ch_transcript.specs.Exchanges.{Exchange, of_exchange}
@@ -85,7 +86,7 @@ outcome_once : (config : Config) (n : ℕ) (p : Progress) (lines : List (List �
 outcome_once config n p [] a b h k = h ∙ sym k
 outcome_once config n p (line ∷ lines) a b h k =
     either_once config n p line (λ q later. OutcomeFrom config (n + 1) q lines later) (λ q c d. outcome_once config (n + 1) q lines c d)
-    (nat_lt longest_line (length line)) a b h k
+    (nat_lt LONGEST_LINE (length line)) a b h k
 
 pub one_outcome : (config : Config) (bytes : List ℕ) (a b : Outcome) → HasOutcome config bytes a → HasOutcome config bytes b → a ≡ b
 one_outcome config bytes a b h k = outcome_once config 1 beginning (lines_of bytes) a b h k

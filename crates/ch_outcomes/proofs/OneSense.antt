@@ -21,7 +21,7 @@ use Rattle.ch_requests.specs.declared.request.Look.TheVariants.{Need, Upgrade, R
 use Rattle.ch_requests.specs.declared.request.Request.{Request}
 use Rattle.ch_requests.specs.declared.trigger.Trigger.{Trigger}
 use Rattle.ch_triggers.proofs.OneReading.{one_reading}
-use Rattle.ch_transcript.specs.Printing.{start_second}
+use Rattle.ch_transcript.specs.declared.start.TheConstants.{START_SECOND}
 use Rattle.ch_protocol.specs.Shards.{Shards}
 use Rattle.ch_transcript.specs.Exchanges.{answers, exchanges, ReadsRequest, Comes}
 use Rattle.ch_transcript.specs.Obeying.{takes_turn, of_socket, Hears, IsJudged}
@@ -107,11 +107,11 @@ judged_once body false false h k = refl
 -- ---- requests
 
 planned_once : (config : Config) (at : ℕ) (q : Request) (ts us : Option (List Trigger)) → ReadsRequest config at (Ready q) ts → ReadsRequest config at (Ready q) us
-    → planned config start_second q at ts ≡ planned config start_second q at us
+    → planned config START_SECOND q at ts ≡ planned config START_SECOND q at us
 planned_once config at q ts us h k = test (is_authorized config q at) h k
   where
     by : Option (List Trigger) → Planned
-    by x = planned_by config start_second q at x q.route
+    by x = planned_by config START_SECOND q at x q.route
 
     test : (is : Bool) → MatchBool is (ReadsBody q.route q.body ts) (Unit {0}) → MatchBool is (ReadsBody q.route q.body us) (Unit {0})
         → (if is then by ts else refused 401) ≡ (if is then by us else refused 401)

@@ -5,7 +5,7 @@ use Rattle.std.specs.Cmp.Lexicographic.{other_text}
 use Rattle.std.specs.List.{list_all}
 use Rattle.std.proofs.lemmas.Bool.{and_parts}
 use Rattle.ch_base.specs.JsonTree.{Span, Tree, no_members, member}
-use Rattle.ch_base.specs.JsonText.{is_unescaped, byte, Chars, String, meaning, Unescapes}
+use Rattle.ch_base.specs.JsonText.{is_unescaped, byte, Chars, String, char_bytes, Unescapes}
 use Rattle.ch_json.specs.Parts.{part}
 use Rattle.ch_json.proofs.OneText.{one_text}
 use Rattle.ch_protocol.specs.ObjectMembers.{AreDistinct, HasNone, HasOne}
@@ -20,7 +20,7 @@ chars_from (b ∷ bytes) rest h =
     let both = and_parts (is_unescaped b) (list_all is_unescaped bytes) h in
     (both.0, (bytes ++ 34 ∷ rest, refl, chars_from bytes rest both.1))
 
-means_itself : (bytes : List ℕ) → bytes ≡ flat_map meaning (map byte bytes)
+means_itself : (bytes : List ℕ) → bytes ≡ flat_map char_bytes (map byte bytes)
 means_itself [] = refl
 means_itself (b ∷ bytes) = ap (λ (z : List ℕ). b ∷ z) (means_itself bytes)
 

@@ -14,7 +14,7 @@ use Rattle.ch_json.specs.declared.error.JsonError.TheVariants as fault
 use Rattle.ch_json.specs.declared.node.Node.{Node}
 use Rattle.ch_json.specs.declared.node.Form.{Form}
 use Rattle.ch_json.specs.declared.node.Form.TheVariants as form
-use Rattle.ch_base.specs.JsonText.{max_depth}
+use Rattle.ch_base.specs.declared.limits.TheConstants.{MAX_DEPTH}
 use Rattle.ch_json.proofs.Fronts.{one_tree}
 use Rattle.ch_transcript.specs.Obeying.{IsJudged}
 use Rattle.ch_player.specs.JsonString.{is_whole_string}
@@ -122,7 +122,7 @@ pub judged : (text : List ℕ) (v : Tree) → Spells text v → IsJudged text (i
 judged text v h =
     (elim (is_whole_string (length text) v) as (λ (b : Bool). is_whole_string (length text) v ≡ b → IsJudged text b) [
       | true ↦ λ e. is_string text v h e
-      | false ↦ λ e quoted. let same : v ≡ plain string (whole text) = one_tree max_depth text v (plain string (whole text)) h (string_whole text quoted) in
+      | false ↦ λ e quoted. let same : v ≡ plain string (whole text) = one_tree MAX_DEPTH text v (plain string (whole text)) h (string_whole text quoted) in
           let is : is_whole_string (length text) v ≡ true = ap (is_whole_string (length text)) same ∙ equal_test (length text) in cc
     ]) refl
 

@@ -17,7 +17,8 @@ use Rattle.ch_transcript.specs.Requests.{api_bytes}
 use Rattle.ch_protocol.specs.Shards.{Shards}
 use Rattle.ch_transcript.specs.Exchanges.{Comes, of_exchange}
 use Rattle.ch_transcript.specs.Gathering.{gathers}
-use Rattle.ch_transcript.specs.Obeying.{Sense, Hears, Means, of_socket, takes_turn, tails, opens, greeting, most_opened, publishes, obeyed}
+use Rattle.ch_transcript.specs.Obeying.{Sense, Hears, Means, of_socket, takes_turn, tails, opens, opening_lines, publishes, obeyed}
+use Rattle.ch_transcript.specs.declared.limits.TheConstants.{MOST_OPENED}
 use Rattle.ch_transcript.specs.Outcomes.{at_moment}
 use Rattle.ch_transcript.specs.Progress.{Progress, Played, Socket, has_socket, is_live, socket_of, quietly}
 use Rattle.ch_transcript.specs.Rounds.{rounded, rounds}
@@ -104,12 +105,12 @@ hears_text p number text r live reads = subst (λ t. MatchBool t (Reads text r) 
 -- the next connection is opened, or refused
 abbrev pub opened : Progress → ℕ → Option ℕ → Played
 opened p at refusal = record {
-  text = greeting (length p.sockets + 1) refusal;
+  text = opening_lines (length p.sockets + 1) refusal;
   next = record { at = p.at; sockets = p.sockets ++ new_socket at refusal ∷ []; shards = p.shards; webhooks = p.webhooks };
 }
 
-pub opens_is : (p : Progress) (at : ℕ) (refusal : Option ℕ) → length p.sockets < most_opened → Some (opened p at refusal) ≡ opens p at refusal
-opens_is p at refusal few = sym (ap (λ t. cond t (Some (opened p at refusal)) None) (lt-ltb (length p.sockets) most_opened few))
+pub opens_is : (p : Progress) (at : ℕ) (refusal : Option ℕ) → length p.sockets < MOST_OPENED → Some (opened p at refusal) ≡ opens p at refusal
+opens_is p at refusal few = sym (ap (λ t. cond t (Some (opened p at refusal)) None) (lt-ltb (length p.sockets) MOST_OPENED few))
 
 -- ---- tails
 

@@ -18,7 +18,7 @@ use Rattle.ch_socket.specs.Sockets.{IsOpen, IsReady}
 use Rattle.ch_protocol.specs.Shards.{Shards, loses}
 use Rattle.ch_transcript.specs.Progress.{Socket, no_socket}
 use Rattle.ch_transcript.specs.Rounds.{Telling, tells_all, all_waiting, taken, has_ended, any_ended, loses_ended, Rounds, after_round, rounds}
-use Rattle.ch_player.specs.Seats.{IsSeatOf, AreSeats, AreReady, session_in, SameSessions, Tells}
+use Rattle.ch_player.specs.Seats.{IsSeatOf, AreSeats, AreReady, session_in, SameSessions, AddsTelling}
 use Rattle.ch_player.specs.Rounding.{open_in, ended_in, one_loss, LosesOne, AllOpen, WereOpen, RunsRound, RunsRounds}
 use Rattle.ch_player.specs.declared.seat.Seat.{Seat}
 use Rattle.ch_player.proofs.Tellings.{tells_all-append, Tells-then}
@@ -44,19 +44,19 @@ flat_map-push F k =
 
 -- the frames of two lists were told, one list after the other
 pub Tells-both : (now : List (Option Seat)) (a b c : List ℕ) (sockets : List Socket) (xs ys : List FrameFor)
-    → b ≡ a ++ (tells_all sockets xs).text → Tells now b c (tells_all (tells_all sockets xs).sockets ys) → Tells now a c (tells_all sockets (xs ++ ys))
+    → b ≡ a ++ (tells_all sockets xs).text → AddsTelling now b c (tells_all (tells_all sockets xs).sockets ys) → AddsTelling now a c (tells_all sockets (xs ++ ys))
 Tells-both now a b c sockets xs ys first more =
-    let P : Telling → Type 0 = λ z. Tells now a c z in
+    let P : Telling → Type 0 = λ z. AddsTelling now a c z in
     subst P (sym (tells_all-append sockets xs ys)) (Tells-then now a b c (tells_all sockets xs) (tells_all (tells_all sockets xs).sockets ys) first more)
 
 -- the frames of the shards below the next one were told, and then its own
 pub Tells-shard : (now : List (Option Seat)) (a b c : List ℕ) (sockets : List Socket) (F : ℕ → List FrameFor) (k : ℕ) (frames : List FrameFor) → frames ≡ F k
-    → b ≡ a ++ (tells_all sockets (flat_map F (range_with_len 0 k))).text → Tells now b c (tells_all (tells_all sockets (flat_map F (range_with_len 0 k))).sockets frames)
-    → Tells now a c (tells_all sockets (flat_map F (range_with_len 0 (k + 1))))
+    → b ≡ a ++ (tells_all sockets (flat_map F (range_with_len 0 k))).text → AddsTelling now b c (tells_all (tells_all sockets (flat_map F (range_with_len 0 k))).sockets frames)
+    → AddsTelling now a c (tells_all sockets (flat_map F (range_with_len 0 (k + 1))))
 Tells-shard now a b c sockets F k frames is first more =
     let below = flat_map F (range_with_len 0 k) in
-    let P : List FrameFor → Type 0 = λ xs. Tells now b c (tells_all (tells_all sockets below).sockets xs) in
-    let Q : List FrameFor → Type 0 = λ xs. Tells now a c (tells_all sockets xs) in
+    let P : List FrameFor → Type 0 = λ xs. AddsTelling now b c (tells_all (tells_all sockets below).sockets xs) in
+    let Q : List FrameFor → Type 0 = λ xs. AddsTelling now a c (tells_all sockets xs) in
     subst Q (sym (flat_map-push F k)) (Tells-both now a b c sockets below (F k) first (subst P is more))
 
 -- Shards that are called one after another: mid where those below k were called, new where k was called too.

@@ -3,7 +3,7 @@ use Rattle.std.proofs.Common.{◌≡◌, ℕ, ◌∙◌, ap, sym, refl, subst, L
 use Rattle.ch_base.specs.declared.frame.FrameFor.{FrameFor}
 use Rattle.ch_transcript.specs.Progress.{Socket}
 use Rattle.ch_transcript.specs.Rounds.{Telling, tells, tells_all}
-use Rattle.ch_player.specs.Seats.{AreSeats, SameSessions, Tells}
+use Rattle.ch_player.specs.Seats.{AreSeats, SameSessions, AddsTelling}
 use Rattle.ch_player.specs.declared.seat.Seat.{Seat}
 use Rattle.std.specs.Prelude.{Option}
 
@@ -21,7 +21,7 @@ tells_all-append sockets (x ∷ xs) ys =
     ap (then_tells first) rest ∙ ap (λ z. record { text = z; sockets = (tells_all (tells_all first.sockets xs).sockets ys).sockets }) (sym (append_assoc first.text (tells_all first.sockets xs).text (tells_all (tells_all first.sockets xs).sockets ys).text))
 
 -- what was told, and then more
-pub Tells-then : (now : List (Option Seat)) (a b c : List ℕ) (t u : Telling) → b ≡ a ++ t.text → Tells now b c u → Tells now a c (then_tells t u)
+pub Tells-then : (now : List (Option Seat)) (a b c : List ℕ) (t u : Telling) → b ≡ a ++ t.text → AddsTelling now b c u → AddsTelling now a c (then_tells t u)
 Tells-then now a b c t u first more = record {
   text = more.text ∙ ap (λ z. z ++ u.text) first ∙ append_assoc a t.text u.text;
   seats = more.seats;
@@ -36,7 +36,7 @@ SameSessions-then a b c first more = record { count = more.count ∙ first.count
 -- some of all the frames were told, and these are left
 pub record TellsOn (now : List (Option Seat)) (old new : List ℕ) (all : Telling) (left : List FrameFor) : Type 0 where
   pub so_far : Telling
-  pub tells : Tells now old new so_far
+  pub tells : AddsTelling now old new so_far
   pub is : then_tells so_far (tells_all so_far.sockets left) ≡ all
 
 pub TellsOn-first : (now : List (Option Seat)) (out : List ℕ) (sockets : List Socket) (frames : List FrameFor) → AreSeats now sockets
@@ -49,7 +49,7 @@ TellsOn-first now out sockets frames are = record {
 
 -- the next frame was told
 pub TellsOn-next : (before now : List (Option Seat)) (a b c : List ℕ) (all : Telling) (x : FrameFor) (xs : List FrameFor) (on : TellsOn before a b all (x ∷ xs))
-    → Tells now b c (tells on.so_far.sockets x) → TellsOn now a c all xs
+    → AddsTelling now b c (tells on.so_far.sockets x) → TellsOn now a c all xs
 TellsOn-next before now a b c all x xs on more =
     let one = tells on.so_far.sockets x in
     let rest = tells_all one.sockets xs in
@@ -60,7 +60,7 @@ TellsOn-next before now a b c all x xs on more =
     }
 
 -- none is left
-pub TellsOn-last : (now : List (Option Seat)) (old new : List ℕ) (all : Telling) → TellsOn now old new all [] → Tells now old new all
+pub TellsOn-last : (now : List (Option Seat)) (old new : List ℕ) (all : Telling) → TellsOn now old new all [] → AddsTelling now old new all
 TellsOn-last now old new all on =
-    let P : Telling → Type 0 = λ t. Tells now old new t in
+    let P : Telling → Type 0 = λ t. AddsTelling now old new t in
     subst P (ap (λ z. record { text = z; sockets = on.so_far.sockets }) (sym (append-nil on.so_far.text)) ∙ on.is) on.tells

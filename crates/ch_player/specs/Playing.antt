@@ -26,7 +26,7 @@ pub record IsAt (player : Player) (p : Progress) : Type 0 where
   pub webhooks : player.batcher.state ≡ batching_of player.config p.webhooks
 
 -- its sessions may hear, and those that have a seat are open
-pub record IsSound (player : Player) : Type 0 where
+pub record IsSoundPlayer (player : Player) : Type 0 where
   pub ready : AreReady player.config player.seats.items
   pub all_open : AllOpen player.seats.items
 

@@ -14,7 +14,7 @@ use Rattle.ch_history.specs.Alone.{with_call, with_user_call}
 use Rattle.ch_protocol.specs.Shards.{Shards, loses}
 use Rattle.ch_transcript.specs.Progress.{Socket, no_socket}
 use Rattle.ch_transcript.specs.Rounds.{tells_all, all_waiting, taken, has_ended, any_ended, loses_ended, Rounds}
-use Rattle.ch_player.specs.Seats.{AreSeats, Tells}
+use Rattle.ch_player.specs.Seats.{AreSeats, AddsTelling}
 use Rattle.ch_player.specs.declared.seat.Seat.{Seat}
 
 -- these frames waited on the channel shard k, and were taken
@@ -42,17 +42,17 @@ users_waiting shards count = flat_map (λ k. user_waiting (shards.users k) 0) (r
 
 -- the frames of so many channel shards were taken and told
 pub record TellsChans (count : ℕ) (bench : BenchModel) (now : List (Option Seat)) (old new : List ℕ) (sockets : List Socket) (shards : Shards) : Type 0 where
-  pub tells : Tells now old new (tells_all sockets (chans_waiting shards count))
+  pub tells : AddsTelling now old new (tells_all sockets (chans_waiting shards count))
   pub at_shards : IsAtShards bench (taken_chans shards)
 
 -- the frames of so many user shards were taken and told
 pub record TellsUsers (count : ℕ) (bench : BenchModel) (now : List (Option Seat)) (old new : List ℕ) (sockets : List Socket) (shards : Shards) : Type 0 where
-  pub tells : Tells now old new (tells_all sockets (users_waiting shards count))
+  pub tells : AddsTelling now old new (tells_all sockets (users_waiting shards count))
   pub at_shards : IsAtShards bench (taken_users shards)
 
 -- the frames of all shards were taken and told
 pub record TellsRound (config : Config) (bench : BenchModel) (now : List (Option Seat)) (old new : List ℕ) (sockets : List Socket) (shards : Shards) : Type 0 where
-  pub tells : Tells now old new (tells_all sockets (all_waiting config shards))
+  pub tells : AddsTelling now old new (tells_all sockets (all_waiting config shards))
   pub at_shards : IsAtShards bench (taken shards)
 
 -- every socket that has a seat is open

@@ -2,7 +2,7 @@
 use Rattle.std.specs.Prelude.{◌≡◌, ℕ, ◌+◌, ◌<◌, false, List, ◌++◌, length, slice_index_or, Option, Some, None, IfSome, option_map}
 use Rattle.ch_config.specs.declared.config.Config.{Config}
 use Rattle.ch_session.specs.Kept.{Kept, IsSession}
-use Rattle.ch_transcript.specs.Printing.{start_second}
+use Rattle.ch_transcript.specs.declared.start.TheConstants.{START_SECOND}
 use Rattle.ch_transcript.specs.Progress.{Socket, no_socket}
 use Rattle.ch_transcript.specs.Rounds.{Telling}
 use Rattle.ch_socket.specs.Sockets.{IsReady}
@@ -11,7 +11,7 @@ use Rattle.ch_player.specs.declared.seat.Seat.{Seat}
 -- the seat is that of the socket with this number
 pub record IsSeated (number : ℕ) (seat : Seat) (s : Socket) : Type 0 where
   pub lives : s.is_open ≡ seat.is_open
-  pub session : IsSession seat.session start_second number s.asks
+  pub session : IsSession seat.session START_SECOND number s.asks
   pub quiet : seat.session.quiet ≡ s.quiet
 
 -- a socket without a seat isn't open
@@ -37,6 +37,6 @@ pub record SameSessions (old new : List (Option Seat)) : Type 0 where
   pub each : (i : ℕ) → session_in (slice_index_or new i None) ≡ session_in (slice_index_or old i None)
 
 -- frames were told: their text is added to the output, and the seats are those of the sockets then
-pub record Tells (now : List (Option Seat)) (old new : List ℕ) (t : Telling) : Type 0 where
+pub record AddsTelling (now : List (Option Seat)) (old new : List ℕ) (t : Telling) : Type 0 where
   pub text : new ≡ old ++ t.text
   pub seats : AreSeats now t.sockets

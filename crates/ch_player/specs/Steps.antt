@@ -13,7 +13,7 @@ use Rattle.ch_player.specs.Benches.{IsAtShards}
 use Rattle.ch_socket.specs.Sockets.{IsSocketOf}
 use Rattle.ch_protocol.specs.Shards.{Shards, calls}
 use Rattle.ch_transcript.specs.Exchanges.{Exchange, of_exchange}
-use Rattle.ch_transcript.specs.Obeying.{Sense, Hears, Means, of_socket, obeyed, greeting, is_accepted, IsJudged, may_except, publishes}
+use Rattle.ch_transcript.specs.Obeying.{Sense, Hears, Means, of_socket, obeyed, opening_lines, is_accepted, IsJudged, may_except, publishes}
 use Rattle.ch_transcript.specs.Progress.{Progress, Played, Socket}
 use Rattle.ch_transcript.specs.Rounds.{rounded}
 use Rattle.ch_transcript.specs.Turns.{Turn, hears}
@@ -25,7 +25,7 @@ new_socket at refusal = record { is_open = is_accepted refusal; quiet = quiet_fr
 
 -- the next connection was opened, or refused: the socket is told so
 pub record Greets (number at : ℕ) (refusal : Option ℕ) (old new : List ℕ) (session : Option Kept) : Type 0 where
-  pub text : new ≡ old ++ greeting number refusal
+  pub text : new ≡ old ++ opening_lines number refusal
   pub socket : IsSocketOf number session (new_socket at refusal)
 
 -- what a socket's turn writes

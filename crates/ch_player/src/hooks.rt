@@ -3,7 +3,7 @@ ghost use Rattle.ch_config.specs.declared.config.Config.{Config};
 ghost use Rattle.ch_desk.specs.AloneCalls.{IsAlone};
 ghost use Rattle.ch_desk.specs.Bench.{view_of};
 ghost use Rattle.ch_protocol.specs.Shards.{Shards};
-ghost use Rattle.ch_transcript.specs.Commands.{latest_moment};
+ghost use Rattle.ch_base.specs.declared.limits.TheConstants.{LATEST_MOMENT};
 ghost use Rattle.ch_transcript.specs.Gathering.{batch_line, events_waiting};
 ghost use Rattle.ch_webhooks.specs.Batching.{with_events};
 ghost use Rattle.ch_player.specs.Benches.{HasShards, IsAtShards};
@@ -23,7 +23,7 @@ pub fn gather_hooks(
     at: u64,
     out: &mut Vec<u8>,
 ) -> Result<(), Memory>
-    requires { at ≤ latest_moment }
+    requires { at ≤ LATEST_MOMENT }
     ensures gathers { (shards : Shards) → IsAtShards bench.old shards → IsAlone (view_of bench.new) → OnOk result
         (Gathers at (with_events batcher.old.state (events_waiting at shards (length bench.old.shards))) bench.new batcher.new.state out.old.items out.new.items shards) }
     ensures shards { (config : Config) → HasShards config bench.old → HasShards config bench.new }

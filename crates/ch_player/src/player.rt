@@ -6,7 +6,9 @@ ghost use Rattle.ch_history.specs.ChannelName.{is_good_name};
 ghost use Rattle.ch_history.specs.Limits.{is_event_name};
 ghost use Rattle.ch_protocol.specs.Targets.{target_refusal};
 ghost use Rattle.ch_player.specs.Benches.{HasShards};
-ghost use Rattle.ch_transcript.specs.Commands.{latest_moment, IsCommand, IsLine};
+ghost use Rattle.ch_transcript.specs.declared.limits.TheConstants.{MOST_OPENED};
+ghost use Rattle.ch_transcript.specs.Commands.{IsCommand, IsLine};
+ghost use Rattle.ch_base.specs.declared.limits.TheConstants.{LATEST_MOMENT};
 ghost use Rattle.ch_transcript.specs.Gathering.{gathers};
 ghost use Rattle.ch_transcript.specs.Obeying.{opens, tails, publishes, may_except};
 ghost use Rattle.ch_transcript.specs.Outcomes.{Plays};
@@ -27,14 +29,10 @@ use ch_base::{Memory, Text};
 use ch_batch::Batcher;
 use ch_config::Config;
 use ch_desk::Bench;
-use ch_script::read_line;
+use ch_script::{join_text, put_sent, put_tail, read_line, sign_in_text};
 use ch_socket::{hear, lose, tick};
-use ch_transcript::{Command, Line, START_SECOND};
-use ch_wording::{join_text, put_sent, put_tail, sign_in_text};
+use ch_transcript::{Command, Line, MOST_OPENED, START_SECOND};
 use std::alloc::Global;
-
-/// The most lines that open a connection.
-const MOST_OPENED: usize = 65_536;
 
 /// A transcript that is being played, line by line, over sessions and a bench of shards.
 #[derive(Drop)]
@@ -48,12 +46,12 @@ pub struct Player {
     batcher: Batcher,
     ghost good: { IsConfig config },
     ghost shards: { HasShards config bench },
-    ghost few: { length seats.items ≤ 65536 },
-    ghost soon: { at ≤ latest_moment },
+    ghost few: { length seats.items ≤ MOST_OPENED },
+    ghost soon: { at ≤ LATEST_MOMENT },
 }
 
 impl Player {
-    ghost use Rattle.ch_player.specs.Playing.{IsAt, IsSound, IsUntouched, PlaysAs, IsRefused, PlaysLine, RunsOn, config_of};
+    ghost use Rattle.ch_player.specs.Playing.{IsAt, IsSoundPlayer, IsUntouched, PlaysAs, IsRefused, PlaysLine, RunsOn, config_of};
     ghost use Rattle.ch_transcript.specs.declared.commands.Line.{Line};
     ghost use Rattle.ch_player.specs.Steps.{TurnOf, HearsOf, Obeys, ObeysWhole, Publishes, MayPublish, ExchangesOf};
 
@@ -61,7 +59,7 @@ impl Player {
     pub fn new(alloc: Global, config: Config) -> Result<Player, Memory>
         requires { IsConfig config }
         ensures stands { IfOk result (λ player. IsAt player beginning) }
-        ensures sound { IfOk result IsSound }
+        ensures sound { IfOk result IsSoundPlayer }
         ensures over { IfOk result (λ player. config_of player ≡ config) }
     {
         let bench = Bench::new(alloc, config.chan_shards, config.user_shards)?;
@@ -79,11 +77,11 @@ impl Player {
     /// Plays one line, which is given without its line end, and adds its output. The output of a line that isn't played is
     /// left out whole. What is no transcript line changes nothing; a player that found no memory isn't played on.
     pub fn play(&mut self, line: &[u8], out: &mut Vec<u8>) -> Result<(), LineFault>
-        requires { IsSound self.old }
+        requires { IsSoundPlayer self.old }
         ensures plays { (p : Progress) → IsAt self.old p → MatchResult result
             (λ _. PlaysAs self.new out.old.items out.new.items (Plays (config_of self.old) p line.now))
             (λ fault. IsRefused fault (Plays (config_of self.old) p line.now)) }
-        ensures sound { OnOk result (IsSound self.new) }
+        ensures sound { OnOk result (IsSoundPlayer self.new) }
         ensures refused { IfErr result (λ fault. IsUntouched fault self.old self.new out.old.items out.new.items) }
         ensures over { config_of self.new ≡ config_of self.old }
         ensures output { OnErr result (out.new.items ≡ out.old.items) }
@@ -101,12 +99,12 @@ impl Player {
     }
 
     fn play_line(&mut self, line: &Line, out: &mut Vec<u8>) -> Result<(), LineFault>
-        requires sound { IsSound self.old }
+        requires sound { IsSoundPlayer self.old }
         requires line { IsLine line.now }
         ensures plays { (p : Progress) → IsAt self.old p → MatchResult result
             (λ _. PlaysAs self.new out.old.items out.new.items (PlaysLine (config_of self.old) p line.now))
             (λ fault. IsRefused fault (PlaysLine (config_of self.old) p line.now)) }
-        ensures sound { OnOk result (IsSound self.new) }
+        ensures sound { OnOk result (IsSoundPlayer self.new) }
         ensures refused { IfErr result (λ fault. IsUntouched fault self.old self.new out.old.items out.new.items) }
         ensures over { config_of self.new ≡ config_of self.old }
     {
@@ -119,13 +117,13 @@ impl Player {
 
     /// Obeys a command at a moment, which isn't before that of the last line, and then runs the rounds.
     fn obey_at(&mut self, at: u64, command: &Command, out: &mut Vec<u8>) -> Result<(), LineFault>
-        requires sound { IsSound self.old }
-        requires moment { at ≤ latest_moment }
+        requires sound { IsSoundPlayer self.old }
+        requires moment { at ≤ LATEST_MOMENT }
         requires command { IsCommand command.now }
         ensures obeys { (p : Progress) → IsAt self.old p → MatchResult result
             (λ _. PlaysAs self.new out.old.items out.new.items (PlaysLine (config_of self.old) p (Line.Timed at command.now)))
             (λ fault. IsRefused fault (PlaysLine (config_of self.old) p (Line.Timed at command.now))) }
-        ensures sound { OnOk result (IsSound self.new) }
+        ensures sound { OnOk result (IsSoundPlayer self.new) }
         ensures refused { IfErr result (λ fault. IsUntouched fault self.old self.new out.old.items out.new.items) }
         ensures over { config_of self.new ≡ config_of self.old }
     {
@@ -144,13 +142,13 @@ impl Player {
     }
 
     fn obey_whole(&mut self, at: u64, command: &Command, out: &mut Vec<u8>) -> Result<(), LineFault>
-        requires sound { IsSound self.old }
-        requires moment { at ≤ latest_moment }
+        requires sound { IsSoundPlayer self.old }
+        requires moment { at ≤ LATEST_MOMENT }
         requires command { IsCommand command.now }
         ensures obeys { (p : Progress) → IsAt self.old p → MatchResult result
             (λ _. PlaysAs self.new out.old.items out.new.items (ObeysWhole (config_of self.old) p at command.now))
             (λ fault. IsRefused fault (ObeysWhole (config_of self.old) p at command.now)) }
-        ensures sound { OnOk result (IsSound self.new) }
+        ensures sound { OnOk result (IsSoundPlayer self.new) }
         ensures refused { IfErr result (λ fault. IsUntouched fault self.old self.new out.old.items out.new.items) }
         ensures over { config_of self.new ≡ config_of self.old }
     {
@@ -166,10 +164,10 @@ impl Player {
 
     /// Runs the rounds at the end of a line.
     fn finish(&mut self, out: &mut Vec<u8>) -> Result<(), Memory>
-        requires { IsSound self.old }
+        requires { IsSoundPlayer self.old }
         ensures runs { (p : Progress) → IsAt self.old p → OnOk result (RunsOn self.new out.old.items out.new.items p
             (rounds (length p.sockets + 1) (config_of self.old) p.at p.sockets p.shards)) }
-        ensures sound { OnOk result (IsSound self.new) }
+        ensures sound { OnOk result (IsSoundPlayer self.new) }
         ensures over { config_of self.new ≡ config_of self.old }
     {
         rounds(
@@ -183,13 +181,13 @@ impl Player {
     }
 
     fn obey(&mut self, at: u64, command: &Command, out: &mut Vec<u8>) -> Result<(), LineFault>
-        requires sound { IsSound self.old }
-        requires moment { at ≤ latest_moment }
+        requires sound { IsSoundPlayer self.old }
+        requires moment { at ≤ LATEST_MOMENT }
         requires command { IsCommand command.now }
         ensures obeys { (p : Progress) → IsAt self.old p → MatchResult result
             (λ _. PlaysAs self.new out.old.items out.new.items (Obeys (config_of self.old) p at command.now))
             (λ fault. IsRefused fault (Obeys (config_of self.old) p at command.now)) }
-        ensures sound { OnOk result (IsSound self.new) }
+        ensures sound { OnOk result (IsSoundPlayer self.new) }
         ensures refused { IfErr result (λ fault. IsUntouched fault self.old self.new out.old.items out.new.items) }
         ensures over { config_of self.new ≡ config_of self.old }
     {
@@ -238,12 +236,12 @@ impl Player {
     }
 
     fn open(&mut self, at: u64, target: &Text, out: &mut Vec<u8>) -> Result<(), LineFault>
-        requires sound { IsSound self.old }
-        requires moment { at ≤ latest_moment }
+        requires sound { IsSoundPlayer self.old }
+        requires moment { at ≤ LATEST_MOMENT }
         ensures opens { (p : Progress) → IsAt self.old p → MatchResult result
             (λ _. PlaysAs self.new out.old.items out.new.items (λ x. x ≡ opens p at (target_refusal (config_of self.old).key target.now)))
             (λ fault. IsRefused fault (λ x. x ≡ opens p at (target_refusal (config_of self.old).key target.now))) }
-        ensures sound { OnOk result (IsSound self.new) }
+        ensures sound { OnOk result (IsSoundPlayer self.new) }
         ensures refused { IfErr result (λ fault. IsUntouched fault self.old self.new out.old.items out.new.items) }
         ensures over { config_of self.new ≡ config_of self.old }
     {
@@ -263,12 +261,12 @@ impl Player {
         text: &Text,
         out: &mut Vec<u8>,
     ) -> Result<(), LineFault>
-        requires sound { IsSound self.old }
-        requires moment { at ≤ latest_moment }
+        requires sound { IsSoundPlayer self.old }
+        requires moment { at ≤ LATEST_MOMENT }
         ensures hears { (p : Progress) → IsAt self.old p → MatchResult result
             (λ _. PlaysAs self.new out.old.items out.new.items (HearsOf (config_of self.old) p at number text.now))
             (λ fault. IsRefused fault (HearsOf (config_of self.old) p at number text.now)) }
-        ensures sound { OnOk result (IsSound self.new) }
+        ensures sound { OnOk result (IsSoundPlayer self.new) }
         ensures refused { IfErr result (λ fault. IsUntouched fault self.old self.new out.old.items out.new.items) }
         ensures over { config_of self.new ≡ config_of self.old }
     {
@@ -295,12 +293,12 @@ impl Player {
     }
 
     fn tick(&mut self, at: u64, number: u64, out: &mut Vec<u8>) -> Result<(), LineFault>
-        requires sound { IsSound self.old }
-        requires moment { at ≤ latest_moment }
+        requires sound { IsSoundPlayer self.old }
+        requires moment { at ≤ LATEST_MOMENT }
         ensures ticks { (p : Progress) → IsAt self.old p → MatchResult result
             (λ _. PlaysAs self.new out.old.items out.new.items (TurnOf p number (ticks number at)))
             (λ fault. IsRefused fault (TurnOf p number (ticks number at))) }
-        ensures sound { OnOk result (IsSound self.new) }
+        ensures sound { OnOk result (IsSoundPlayer self.new) }
         ensures refused { IfErr result (λ fault. IsUntouched fault self.old self.new out.old.items out.new.items) }
         ensures over { config_of self.new ≡ config_of self.old }
     {
@@ -326,12 +324,12 @@ impl Player {
     }
 
     fn lose(&mut self, at: u64, number: u64) -> Result<(), LineFault>
-        requires sound { IsSound self.old }
-        requires moment { at ≤ latest_moment }
+        requires sound { IsSoundPlayer self.old }
+        requires moment { at ≤ LATEST_MOMENT }
         ensures loses { (p : Progress) (wrote : List ℕ) → IsAt self.old p → MatchResult result
             (λ _. PlaysAs self.new wrote wrote (TurnOf p number (ends_turn [] number at)))
             (λ fault. IsRefused fault (TurnOf p number (ends_turn [] number at))) }
-        ensures sound { OnOk result (IsSound self.new) }
+        ensures sound { OnOk result (IsSoundPlayer self.new) }
         ensures refused { (wrote : List ℕ) → IfErr result (λ fault. IsUntouched fault self.old self.new wrote wrote) }
         ensures over { config_of self.new ≡ config_of self.old }
     {
@@ -356,14 +354,14 @@ impl Player {
         except: Option<u64>,
         out: &mut Vec<u8>,
     ) -> Result<(), LineFault>
-        requires sound { IsSound self.old }
-        requires moment { at ≤ latest_moment }
+        requires sound { IsSoundPlayer self.old }
+        requires moment { at ≤ LATEST_MOMENT }
         requires name { is_good_name channel.now ≡ true }
         requires event { is_event_name event.now ≡ true }
         ensures publishes { (p : Progress) → IsAt self.old p → MatchResult result
             (λ _. PlaysAs self.new out.old.items out.new.items (Publishes (config_of self.old) p at channel.now event.now body.now except))
             (λ fault. IsRefused fault (Publishes (config_of self.old) p at channel.now event.now body.now except)) }
-        ensures sound { OnOk result (IsSound self.new) }
+        ensures sound { OnOk result (IsSoundPlayer self.new) }
         ensures refused { IfErr result (λ fault. IsUntouched fault self.old self.new out.old.items out.new.items) }
         ensures over { config_of self.new ≡ config_of self.old }
     {
@@ -392,14 +390,14 @@ impl Player {
         except: Option<u64>,
         out: &mut Vec<u8>,
     ) -> Result<(), Memory>
-        requires sound { IsSound self.old }
-        requires moment { at ≤ latest_moment }
+        requires sound { IsSoundPlayer self.old }
+        requires moment { at ≤ LATEST_MOMENT }
         requires name { is_good_name channel.now ≡ true }
         requires event { is_event_name event.now ≡ true }
         requires body { IsJsonString body.now }
         ensures publishes { (p : Progress) → IsAt self.old p → OnOk result (PlaysAs self.new out.old.items out.new.items
             (λ x. x ≡ Some (publishes (config_of self.old) p at channel.now event.now body.now except))) }
-        ensures sound { OnOk result (IsSound self.new) }
+        ensures sound { OnOk result (IsSoundPlayer self.new) }
         ensures over { config_of self.new ≡ config_of self.old }
     {
         let call = publish_call(self.alloc, channel, event, body, except, at)?;
@@ -419,12 +417,12 @@ impl Player {
 
     /// Does what the bytes of a request ask for.
     fn exchange(&mut self, at: u64, bytes: &[u8], out: &mut Vec<u8>) -> Result<(), LineFault>
-        requires sound { IsSound self.old }
-        requires moment { at ≤ latest_moment }
+        requires sound { IsSoundPlayer self.old }
+        requires moment { at ≤ LATEST_MOMENT }
         ensures exchanges { (p : Progress) → IsAt self.old p → MatchResult result
             (λ _. PlaysAs self.new out.old.items out.new.items (ExchangesOf (config_of self.old) p at bytes.now))
             (λ fault. IsRefused fault (ExchangesOf (config_of self.old) p at bytes.now)) }
-        ensures sound { OnOk result (IsSound self.new) }
+        ensures sound { OnOk result (IsSoundPlayer self.new) }
         ensures refused { IfErr result (λ fault. IsUntouched fault self.old self.new out.old.items out.new.items) }
         ensures over { config_of self.new ≡ config_of self.old }
     {
@@ -446,12 +444,12 @@ impl Player {
 
     /// Takes the webhook events that wait, and prints the batches that they are cut into.
     fn hooks(&mut self, at: u64, out: &mut Vec<u8>) -> Result<(), LineFault>
-        requires sound { IsSound self.old }
-        requires moment { at ≤ latest_moment }
+        requires sound { IsSoundPlayer self.old }
+        requires moment { at ≤ LATEST_MOMENT }
         ensures gathers { (p : Progress) → IsAt self.old p → MatchResult result
             (λ _. PlaysAs self.new out.old.items out.new.items (λ x. x ≡ Some (gathers (config_of self.old) p at)))
             (λ fault. IsRefused fault (λ x. x ≡ Some (gathers (config_of self.old) p at))) }
-        ensures sound { OnOk result (IsSound self.new) }
+        ensures sound { OnOk result (IsSoundPlayer self.new) }
         ensures refused { IfErr result (λ fault. IsUntouched fault self.old self.new out.old.items out.new.items) }
         ensures over { config_of self.new ≡ config_of self.old }
     {
@@ -464,11 +462,11 @@ impl Player {
     }
 
     fn tail(&mut self, shard: u64, out: &mut Vec<u8>) -> Result<(), LineFault>
-        requires sound { IsSound self.old }
+        requires sound { IsSoundPlayer self.old }
         ensures tails { (p : Progress) → IsAt self.old p → MatchResult result
             (λ _. PlaysAs self.new out.old.items out.new.items (λ x. x ≡ tails (config_of self.old) p shard))
             (λ fault. IsRefused fault (λ x. x ≡ tails (config_of self.old) p shard)) }
-        ensures sound { OnOk result (IsSound self.new) }
+        ensures sound { OnOk result (IsSoundPlayer self.new) }
         ensures refused { IfErr result (λ fault. IsUntouched fault self.old self.new out.old.items out.new.items) }
         ensures over { config_of self.new ≡ config_of self.old }
     {

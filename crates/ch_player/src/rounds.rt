@@ -10,9 +10,10 @@ ghost use Rattle.ch_player.specs.Benches.{IsAtShards, HasShards};
 ghost use Rattle.ch_socket.specs.Sockets.{IsReady};
 ghost use Rattle.ch_history.specs.Alone.{with_call, with_user_call};
 ghost use Rattle.ch_protocol.specs.Shards.{Shards};
+ghost use Rattle.ch_transcript.specs.declared.limits.TheConstants.{MOST_OPENED};
 ghost use Rattle.ch_transcript.specs.Progress.{Socket};
 ghost use Rattle.ch_transcript.specs.Rounds.{tells_all, all_waiting, taken, any_ended, loses_ended, rounds};
-ghost use Rattle.ch_player.specs.Seats.{IsSeatOf, AreSeats, AreReady, SameSessions, Tells};
+ghost use Rattle.ch_player.specs.Seats.{IsSeatOf, AreSeats, AreReady, SameSessions, AddsTelling};
 ghost use Rattle.ch_player.specs.Rounding.{ChanTakes, UserTakes, TellsChans, TellsUsers, TellsRound, RunsRounds, AllOpen, WereOpen, ended_in, open_in, LosesOne, LosesEnded, RunsRound};
 
 use crate::seat::Seat;
@@ -148,7 +149,7 @@ fn lose_one(
     requires moment { IsMoment at }
     requires shards { HasShards config.now bench.old }
     requires place { i < length seats.old.items }
-    requires few { length seats.old.items ≤ 65536 }
+    requires few { length seats.old.items ≤ MOST_OPENED }
     requires ready { IfSome (slice_index_or seats.old.items i None) (λ seat. IsReady config.now (i + 1) seat.session) }
     ensures loses { (before after : Socket) (shards : Shards) → before.is_open ≡ is_some (slice_index_or seats.old.items i None)
         → IsSeatOf (i + 1) (slice_index_or seats.old.items i None) after → IsAtShards bench.old shards
@@ -176,7 +177,7 @@ fn lose_ended(
     requires moment { IsMoment at }
     requires shards { HasShards config.now bench.old }
     requires ready { AreReady config.now seats.old.items }
-    requires few { length seats.old.items ≤ 65536 }
+    requires few { length seats.old.items ≤ MOST_OPENED }
     ensures loses { (before after : List Socket) (shards : Shards) → WereOpen before seats.old.items → AreSeats seats.old.items after → IsAtShards bench.old shards
         → IfOk result (LosesEnded at bench.new seats.new.items before after shards) }
     ensures ready { OnOk result (AreReady config.now seats.new.items) }
@@ -205,7 +206,7 @@ fn run_round(
     requires shards { HasShards config.now bench.old }
     requires ready { AreReady config.now seats.old.items }
     requires open { AllOpen seats.old.items }
-    requires few { length seats.old.items ≤ 65536 }
+    requires few { length seats.old.items ≤ MOST_OPENED }
     ensures runs { (sockets : List Socket) (shards : Shards) → AreSeats seats.old.items sockets → IsAtShards bench.old shards
         → IfOk result (RunsRound config.now at bench.new seats.new.items out.old.items out.new.items sockets shards) }
     ensures shards { HasShards config.now bench.new }
@@ -231,7 +232,7 @@ pub fn rounds(
     requires shards { HasShards config.now bench.old }
     requires ready { AreReady config.now seats.old.items }
     requires open { AllOpen seats.old.items }
-    requires few { length seats.old.items ≤ 65536 }
+    requires few { length seats.old.items ≤ MOST_OPENED }
     ensures runs { (sockets : List Socket) (shards : Shards) → AreSeats seats.old.items sockets → IsAtShards bench.old shards →
         OnOk result (RunsRounds bench.new seats.new.items out.old.items out.new.items (rounds (length sockets + 1) config.now at sockets shards)) }
     ensures shards { HasShards config.now bench.new }

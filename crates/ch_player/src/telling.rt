@@ -1,10 +1,10 @@
 ghost use Rattle.std.specs.Prelude.{◌≡◌, ◌≤◌, true, List, length, OnOk};
 ghost use Rattle.ch_transcript.specs.Progress.{Socket, is_live, with_socket, closed, socket_of};
 ghost use Rattle.ch_transcript.specs.Rounds.{tells, tells_all};
-ghost use Rattle.ch_player.specs.Seats.{AreSeats, SameSessions, Tells};
+ghost use Rattle.ch_player.specs.Seats.{AreSeats, SameSessions, AddsTelling};
 
 use crate::seat::Seat;
-use ch_base::{Frame, FrameList, Memory, Shared};
+use ch_base::{Frame, FrameList, Memory, Shared, UNAUTHORIZED};
 use ch_socket::{put_end, put_printed};
 use std::alloc::Global;
 
@@ -16,7 +16,7 @@ pub fn tell_all(
     out: &mut Vec<u8>,
 ) -> Result<(), Memory>
     ensures tells { (sockets : List Socket) → AreSeats seats.old.items sockets →
-        OnOk result (Tells seats.new.items out.old.items out.new.items (tells_all sockets frames)) }
+        OnOk result (AddsTelling seats.new.items out.old.items out.new.items (tells_all sockets frames)) }
     ensures sessions { SameSessions seats.old.items seats.new.items }
 {
     while let Some(item) = frames.take_front() {
@@ -33,7 +33,7 @@ fn tell(
     out: &mut Vec<u8>,
 ) -> Result<(), Memory>
     ensures tells { (sockets : List Socket) → AreSeats seats.old.items sockets →
-        OnOk result (Tells seats.new.items out.old.items out.new.items (tells sockets item)) }
+        OnOk result (AddsTelling seats.new.items out.old.items out.new.items (tells sockets item)) }
     ensures sessions { SameSessions seats.old.items seats.new.items }
 {
     let number = item.socket();
@@ -43,7 +43,7 @@ fn tell(
     let printed = item.into_printed();
     match printed.frame() {
         Frame::Kill => {
-            put_end(alloc, out, number, 4009)?;
+            put_end(alloc, out, number, UNAUTHORIZED)?;
             close(seats, number);
             Ok(())
         }

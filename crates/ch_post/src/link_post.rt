@@ -66,7 +66,7 @@ impl<D: Dial + Drop> LinkPost<D> {
         self.link.as_ref()
     }
 
-    /// The bytes that were read from the link of the last post, at most 1,024.
+    /// The bytes that were read from the link of the last post, at most `MOST_SEEN`.
     pub fn seen(&self) -> &[u8]
         ensures { result.now ≡ self.now.seen }
     {

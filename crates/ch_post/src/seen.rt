@@ -1,27 +1,29 @@
 ghost use Rattle.std.specs.Prelude.{◌≡◌, ◌≤◌, ◌-◌, ◌++◌, ◌↔◌, ◌<◌, [], length, take, IsTrue, option_map};
+ghost use Rattle.ch_post.specs.declared.seen.TheConstants.{MOST_SEEN};
 ghost use Rattle.ch_post.specs.StatusLines.{first_line};
 
 use crate::status_line::first_line;
 use std::marker::Model;
 
 /// The most bytes of a response that are kept.
-pub(crate) const MOST_SEEN: u64 = 1_024;
+pub(crate) const MOST_SEEN: usize = 1_024;
 
-/// The first bytes of a response, at most 1,024. Contracts see these bytes.
+/// The first bytes of a response, at most `MOST_SEEN`. Contracts see these bytes.
 #[derive(Drop)]
 pub(crate) struct Seen {
-    bytes: [u8; 1_024],
+    bytes: [u8; MOST_SEEN],
     count: usize,
 }
 
 impl Model for Seen {
     ghost use Rattle.std.specs.Prelude.{List, ℕ, ◌≤◌, take};
+    ghost use Rattle.ch_post.specs.declared.seen.TheConstants.{MOST_SEEN};
 
     ghost Value = { List ℕ };
 
     ghost view = { λ s. take s.count s.bytes };
 
-    ghost invariant = { λ s. s.count ≤ 1024 };
+    ghost invariant = { λ s. s.count ≤ MOST_SEEN };
 }
 
 impl Seen {
@@ -30,7 +32,7 @@ impl Seen {
         ensures { result ≡ [] }
     {
         Seen {
-            bytes: [0; 1_024],
+            bytes: [0; MOST_SEEN],
             count: 0,
         }
     }
@@ -43,15 +45,15 @@ impl Seen {
 
     /// How many more bytes there is room for.
     pub fn room(&self) -> usize
-        ensures room { result ≡ 1024 - length self.now }
-        ensures few { length self.now ≤ 1024 }
+        ensures room { result ≡ MOST_SEEN - length self.now }
+        ensures few { length self.now ≤ MOST_SEEN }
     {
         self.bytes.len() - self.count
     }
 
     /// Keeps these bytes too.
     pub fn add(&mut self, more: &[u8])
-        requires { length more.now ≤ 1024 - length self.old }
+        requires { length more.now ≤ MOST_SEEN - length self.old }
         ensures { self.new ≡ self.old ++ more.now }
     {
         self.bytes[self.count..self.count + more.len()].copy_from_slice(more);

@@ -13,7 +13,7 @@ use Rattle.ch_history.specs.WellFormed.{IsMemberOf}
 use Rattle.ch_history.proofs.Lists.{neither, list_any-filter}
 use Rattle.ch_history.proofs.Texts.{same_text}
 use Rattle.ch_presence.specs.declared.present.Present.{Present}
-use Rattle.ch_presence.specs.Members.{present, present_on, members_on, ids_on, is_of, is_present, user_of}
+use Rattle.ch_presence.specs.Members.{present, present_on, members_on, ids_on, is_row_of, is_present, user_of}
 use Rattle.ch_presence.specs.Subscribed.{rows_of, HasMember, UsersLaw}
 
 pub members_of : (xs : List Subscription) (c : List ℕ) → members_on (rows_of xs) c ≡ members_in (on_channel xs c)
@@ -38,7 +38,7 @@ abbrev first_row : Subscription → Bool → Bool → Option Member → Option P
 first_row s a b None found = found
 first_row s a b (Some m) found = cond (a && b) (Some (present s.channel s.socket m)) found
 
-find-first_row : (s : Subscription) (c : List ℕ) (socket : ℕ) (o : Option Member) (rows : List Present) → find (is_of c socket) (cons_option (option_map (λ m. present s.channel s.socket m) o) rows) ≡ first_row s (s.socket == socket) (bytes_eq s.channel c) o (find (is_of c socket) rows)
+find-first_row : (s : Subscription) (c : List ℕ) (socket : ℕ) (o : Option Member) (rows : List Present) → find (is_row_of c socket) (cons_option (option_map (λ m. present s.channel s.socket m) o) rows) ≡ first_row s (s.socket == socket) (bytes_eq s.channel c) o (find (is_row_of c socket) rows)
 find-first_row s c socket None rows = refl
 find-first_row s c socket (Some m) rows = refl
 
@@ -67,7 +67,7 @@ user_of-rows_of (s ∷ xs) c socket is all =
     let there : bytes_eq s.channel c ≡ true → is_some s.member ≡ true =
     λ here. its_member (is_presence s.channel) s.member (ap is_presence (same_text s.channel c here) ∙ is) (All-head HasMember s xs all) in
     ap user_found (find-first_row s c socket s.member (rows_of xs))
-    ∙ same_user s (s.socket == socket) (bytes_eq s.channel c) s.member (find (is_of c socket) (rows_of xs)) (find (λ s. s.socket == socket) (on_channel xs c)) refl there rest
+    ∙ same_user s (s.socket == socket) (bytes_eq s.channel c) s.member (find (is_row_of c socket) (rows_of xs)) (find (λ s. s.socket == socket) (on_channel xs c)) refl there rest
     ∙ ap user_seen (sym (find-cond s socket (bytes_eq s.channel c) (on_channel xs c)))
 
 -- a socket without a subscription has no row
@@ -76,7 +76,7 @@ no_row c socket [] none = refl
 no_row c socket (s ∷ xs) none =
     let parts = neither ((s.socket == socket) && bytes_eq s.channel c) (list_any (λ s. (s.socket == socket) && bytes_eq s.channel c) xs) none in
     let rest = no_row c socket xs parts.1 in
-    elim s.member as (λ o. list_any (is_of c socket) (cons_option (option_map (λ m. present s.channel s.socket m) o) (rows_of xs)) ≡ false) [
+    elim s.member as (λ o. list_any (is_row_of c socket) (cons_option (option_map (λ m. present s.channel s.socket m) o) (rows_of xs)) ≡ false) [
       | None ↦ rest
       | Some m ↦ ap₂ ◌||◌ parts.0 rest
     ]

@@ -30,16 +30,16 @@ abbrev pub rows_on : List Present → List ℕ → List Member
 rows_on rows c = filter_map (λ id. find (λ m. bytes_eq m.user_id id) (members_on rows c)) (ids_on rows c)
 
 -- whether this is the socket's row on the channel c
-abbrev pub is_of : List ℕ → ℕ → Present → Bool
-is_of c socket r = (r.socket == socket) && bytes_eq r.channel c
+abbrev pub is_row_of : List ℕ → ℕ → Present → Bool
+is_row_of c socket r = (r.socket == socket) && bytes_eq r.channel c
 
 -- whether the socket is on the channel c
 abbrev pub is_present : List Present → List ℕ → ℕ → Bool
-is_present rows c socket = list_any (is_of c socket) rows
+is_present rows c socket = list_any (is_row_of c socket) rows
 
 -- the member as which the socket is on the channel c
 abbrev pub member_of : List Present → List ℕ → ℕ → Option Member
-member_of rows c socket = option_map (λ r. r.member) (find (is_of c socket) rows)
+member_of rows c socket = option_map (λ r. r.member) (find (is_row_of c socket) rows)
 
 -- the user as which the socket is on the channel c
 abbrev pub user_of : List Present → List ℕ → ℕ → Option (List ℕ)
@@ -47,7 +47,7 @@ user_of rows c socket = option_map (λ m. m.user_id) (member_of rows c socket)
 
 -- without the socket's row on the channel c
 abbrev pub without : List Present → List ℕ → ℕ → List Present
-without rows c socket = filter (λ r. not (is_of c socket r)) rows
+without rows c socket = filter (λ r. not (is_row_of c socket r)) rows
 
 -- without the socket's rows
 abbrev pub without_all : List Present → ℕ → List Present

@@ -3,7 +3,7 @@ ghost use Rattle.std.specs.List.{list_any};
 ghost use Rattle.std.specs.Option.{option_copied};
 ghost use Rattle.ch_history.specs.Texts.{has_text};
 ghost use Rattle.ch_presence.specs.Users.{with_member};
-ghost use Rattle.ch_presence.specs.Members.{present_on, members_on, ids_on, is_of, without};
+ghost use Rattle.ch_presence.specs.Members.{present_on, members_on, ids_on, is_row_of, without};
 
 use crate::present::Present;
 use ch_base::{Member, Text};
@@ -90,7 +90,7 @@ fn first_of<'a>(index: &'a Index<Present>, channel: &Text, user_id: &Text) -> Op
 
 /// The socket's row on the channel.
 pub fn row_of<'a>(index: &'a Index<Present>, channel: &Text, socket: u64) -> Option<&'a Present>
-    ensures { option_copied result ≡ find (is_of channel.now socket) index.now }
+    ensures { option_copied result ≡ find (is_row_of channel.now socket) index.now }
 {
     index.find(socket, channel)
 }

@@ -1,7 +1,7 @@
 //! What is told of a presence channel's members, as JSON texts.
 ghost use Rattle.std.specs.Prelude.{◌≡◌, IfOk, string_bytes, codes};
 ghost use Rattle.std.specs.List.{join_by};
-ghost use Rattle.ch_base.specs.PresenceData.{id_of, info_of, roster, arrival, departure};
+ghost use Rattle.ch_base.specs.PresenceData.{id_of, info_of, roster, member_added_data, member_removed_data};
 
 use crate::escape::quoted;
 use ch_base::{Member, Memory};
@@ -56,7 +56,7 @@ fn info(alloc: Global, member: &Member) -> Result<String, Memory>
 
 /// A member that is new.
 pub fn arrival(alloc: Global, member: &Member) -> Result<String, Memory>
-    ensures { IfOk result (λ t. string_bytes t ≡ arrival member.now) }
+    ensures { IfOk result (λ t. string_bytes t ≡ member_added_data member.now) }
 {
     let user_id = quoted(alloc, member.user_id.as_str())?;
     let user_id = user_id.as_str();
@@ -67,7 +67,7 @@ pub fn arrival(alloc: Global, member: &Member) -> Result<String, Memory>
 
 /// A member that is gone.
 pub fn departure(alloc: Global, user_id: &str) -> Result<String, Memory>
-    ensures { IfOk result (λ t. string_bytes t ≡ departure user_id.now) }
+    ensures { IfOk result (λ t. string_bytes t ≡ member_removed_data user_id.now) }
 {
     let user_id = quoted(alloc, user_id)?;
     let user_id = user_id.as_str();

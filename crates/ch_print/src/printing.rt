@@ -1,15 +1,12 @@
 ghost use Rattle.std.specs.Prelude.{◌≡◌, IfOk, string_bytes};
-ghost use Rattle.ch_base.specs.Printed.{greeting, opened, error, subscribed, added, removed, event_on, signed_in, presence_word, change, watch, printed};
+ghost use Rattle.ch_base.specs.Printed.{established_data, connection_established, error, subscription_succeeded, member_added, member_removed, event_on, signin_success, presence_word, watchlist_change, watchlist_events, printed};
 
 use crate::error_texts::error_text;
 use crate::escape::quoted;
 use crate::events::{bare_event, channel_event, connection_event, member_event};
 use crate::presence::{arrival, departure, roster};
-use ch_base::{Frame, Member, Memory, Text};
+use ch_base::{Frame, Member, Memory, Text, UNAUTHORIZED};
 use std::alloc::Global;
-
-/// The error after which a connection is closed as unauthorized.
-const UNAUTHORIZED: u16 = 4009;
 
 /// The text of a frame, of a server that started at the second `start`.
 pub fn print(alloc: Global, frame: &Frame, start: u64) -> Result<Text, Memory>
@@ -48,7 +45,7 @@ fn frame_text(alloc: Global, frame: &Frame, start: u64) -> Result<String, Memory
 }
 
 fn opened(alloc: Global, number: u64, start: u64) -> Result<String, Memory>
-    ensures { IfOk result (λ t. string_bytes t ≡ opened number start) }
+    ensures { IfOk result (λ t. string_bytes t ≡ connection_established number start) }
 {
     let body = greeting(alloc, number, start)?;
     let body = quoted(alloc, body.as_str())?;
@@ -56,7 +53,7 @@ fn opened(alloc: Global, number: u64, start: u64) -> Result<String, Memory>
 }
 
 fn greeting(alloc: Global, number: u64, start: u64) -> Result<String, Memory>
-    ensures { IfOk result (λ t. string_bytes t ≡ greeting number start) }
+    ensures { IfOk result (λ t. string_bytes t ≡ established_data number start) }
 {
     let text = format!(in alloc;
         "{{\"socket_id\":\"{start}.{number}\",\"activity_timeout\":120}}"
@@ -74,7 +71,7 @@ fn error(alloc: Global, code: u16) -> Result<String, Memory>
 }
 
 fn subscribed(alloc: Global, channel: &str, body: &str) -> Result<String, Memory>
-    ensures { IfOk result (λ t. string_bytes t ≡ subscribed channel.now body.now) }
+    ensures { IfOk result (λ t. string_bytes t ≡ subscription_succeeded channel.now body.now) }
 {
     let body = quoted(alloc, body)?;
     channel_event(
@@ -86,7 +83,7 @@ fn subscribed(alloc: Global, channel: &str, body: &str) -> Result<String, Memory
 }
 
 fn added(alloc: Global, channel: &str, member: &Member) -> Result<String, Memory>
-    ensures { IfOk result (λ t. string_bytes t ≡ added channel.now member.now) }
+    ensures { IfOk result (λ t. string_bytes t ≡ member_added channel.now member.now) }
 {
     let body = arrival(alloc, member)?;
     let body = quoted(alloc, body.as_str())?;
@@ -99,7 +96,7 @@ fn added(alloc: Global, channel: &str, member: &Member) -> Result<String, Memory
 }
 
 fn removed(alloc: Global, channel: &str, user_id: &str) -> Result<String, Memory>
-    ensures { IfOk result (λ t. string_bytes t ≡ removed channel.now user_id.now) }
+    ensures { IfOk result (λ t. string_bytes t ≡ member_removed channel.now user_id.now) }
 {
     let body = departure(alloc, user_id)?;
     let body = quoted(alloc, body.as_str())?;
@@ -128,7 +125,7 @@ fn event_on(
 }
 
 fn signed_in(alloc: Global, user_data: &str) -> Result<String, Memory>
-    ensures { IfOk result (λ t. string_bytes t ≡ signed_in user_data.now) }
+    ensures { IfOk result (λ t. string_bytes t ≡ signin_success user_data.now) }
 {
     let user_data = quoted(alloc, user_data)?;
     let user_data = user_data.as_str();
@@ -137,14 +134,14 @@ fn signed_in(alloc: Global, user_data: &str) -> Result<String, Memory>
 }
 
 fn watch(alloc: Global, online: bool, user_id: &str) -> Result<String, Memory>
-    ensures { IfOk result (λ t. string_bytes t ≡ watch online user_id.now) }
+    ensures { IfOk result (λ t. string_bytes t ≡ watchlist_events online user_id.now) }
 {
     let body = change(alloc, online, user_id)?;
     connection_event(alloc, "pusher_internal:watchlist_events", body.as_str())
 }
 
 fn change(alloc: Global, online: bool, user_id: &str) -> Result<String, Memory>
-    ensures { IfOk result (λ t. string_bytes t ≡ change online user_id.now) }
+    ensures { IfOk result (λ t. string_bytes t ≡ watchlist_change online user_id.now) }
 {
     let name = quoted(alloc, presence_word(online))?;
     let name = name.as_str();

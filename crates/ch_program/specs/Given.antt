@@ -1,6 +1,7 @@
 -- The configuration that words name.
 use Rattle.std.specs.Prelude.{◌≡◌, ◌≤◌, ◌||◌, ℕ, Bool, false, List, [], ◌∷◌, length, bytes_eq, codes, Option, None, Some, IfSome}
 use Rattle.ch_config_text.specs.BuiltIn.{built_in_text}
+use Rattle.ch_program.specs.declared.limits.TheConstants.{LONGEST_FILE}
 use Rattle.ch_program.specs.declared.given.Given.{Given}
 use Rattle.ch_program.specs.declared.given.Given.TheVariants.{BuiltIn, File, Unread}
 
@@ -8,10 +9,6 @@ use Rattle.ch_program.specs.declared.given.Given.TheVariants.{BuiltIn, File, Unr
 abbrev pub names_file : List (List ℕ) → Bool
 names_file (word ∷ path ∷ []) = bytes_eq word (codes "replay") || bytes_eq word (codes "serve")
 names_file _ = false
-
--- the longest file of a configuration, in bytes
-abbrev pub longest_file : ℕ
-longest_file = 65536
 
 -- the bytes of the configuration, where there are any
 abbrev pub bytes_of : Given → Option (List ℕ)
@@ -23,4 +20,4 @@ bytes_of Unread = None
 -- read.
 pub record IsGiven (words : List (List ℕ)) (given : Option (List ℕ)) : Type 0 where
   pub built_in : names_file words ≡ false → given ≡ Some built_in_text
-  pub short : IfSome given (λ bytes. length bytes ≤ longest_file)
+  pub short : IfSome given (λ bytes. length bytes ≤ LONGEST_FILE)

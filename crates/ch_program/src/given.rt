@@ -2,23 +2,22 @@ ghost use Rattle.std.specs.Prelude.{◌≡◌, ◌≤◌, false, length, IfOk, I
 ghost use Rattle.std.specs.Option.{option_copied};
 ghost use Rattle.ch_config.specs.Config.{built_in};
 ghost use Rattle.ch_config_text.specs.Config.{config_in};
-ghost use Rattle.ch_program.specs.Given.{bytes_of, longest_file, names_file};
+ghost use Rattle.ch_program.specs.Given.{bytes_of, names_file};
+ghost use Rattle.ch_program.specs.declared.limits.TheConstants.{LONGEST_FILE};
 
+use crate::limits::LONGEST_FILE;
 use ch_base::{Memory, Text};
 use ch_config_text::built_in_text;
 use std::io::Read;
 use std::rt::Files;
 use std::{fs, io};
 
-/// The longest file of a configuration, in bytes.
-const LONGEST: usize = 65_536;
-
 /// The configuration that the words name.
 #[derive(Debug, Drop)]
 pub enum Given {
     /// They name no file, so the built-in text serves.
     BuiltIn,
-    /// The bytes of the file that they name: at most 65,536.
+    /// The bytes of the file that they name: at most `LONGEST_FILE`.
     File(Vec<u8>),
     /// The file that they name can't be read, or is longer.
     Unread,
@@ -42,7 +41,7 @@ impl Given {
 /// Other words open no file.
 pub fn named_config<R: Files + AllocGlobal>(rt: &R, words: &[Text]) -> Result<Given, Memory>
     ensures built_in { names_file words.now ≡ false → result ≡ Ok Given.BuiltIn }
-    ensures short { IfOk result (λ given. IfSome (bytes_of given) (λ bytes. length bytes ≤ longest_file)) }
+    ensures short { IfOk result (λ given. IfSome (bytes_of given) (λ bytes. length bytes ≤ LONGEST_FILE)) }
 {
     match words {
         [word, path] if word.as_str() == "replay" || word.as_str() == "serve" => {
@@ -54,15 +53,15 @@ pub fn named_config<R: Files + AllocGlobal>(rt: &R, words: &[Text]) -> Result<Gi
 
 /// The configuration of a file.
 fn read_file<R: Files + AllocGlobal>(rt: &R, path: &str) -> Result<Given, Memory>
-    ensures { IfOk result (λ given. IfSome (bytes_of given) (λ bytes. length bytes ≤ longest_file)) }
+    ensures { IfOk result (λ given. IfSome (bytes_of given) (λ bytes. length bytes ≤ LONGEST_FILE)) }
 {
     let file = match fs::open(rt, path) {
         Ok(file) => file,
         Err(error) => return unread(&error),
     };
     let mut bytes = Vec::new(rt.alloc());
-    match file.take(LONGEST as u64 + 1).read_to_end(&mut bytes) {
-        Ok(_) if bytes.len() <= LONGEST => Ok(Given::File(bytes)),
+    match file.take(LONGEST_FILE as u64 + 1).read_to_end(&mut bytes) {
+        Ok(_) if bytes.len() <= LONGEST_FILE => Ok(Given::File(bytes)),
         Ok(_) => Ok(Given::Unread),
         Err(error) => unread(&error),
     }

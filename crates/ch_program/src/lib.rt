@@ -7,10 +7,12 @@
 
 mod command;
 mod given;
+mod limits;
 mod running;
 mod words;
 
 pub use command::Command;
 pub use given::{Given, named_config};
+pub use limits::LONGEST_FILE;
 pub use running::program;
 pub use words::words_of;

@@ -13,7 +13,7 @@ use Rattle.ch_sig.specs.Hmac.{hmac}
 use Rattle.ch_base.specs.ErrorTexts.{error_text}
 use Rattle.ch_protocol.specs.Examples.{Frames}
 use Rattle.ch_protocol.specs.TargetExamples.{TargetExamples}
-use Rattle.ch_protocol.specs.SessionExamples.{Subscribes, Says, SignsIn, Authorized, Outcomes, Settled}
+use Rattle.ch_protocol.specs.SessionExamples.{Subscribes, SayExamples, SignsIn, Authorized, Outcomes, Settled}
 
 pub frames : Frames
 unfolding digits escaped_byte error_text quoted
@@ -73,7 +73,7 @@ subscribes = record {
   own_one_stays = refl;
 }
 
-pub says : Says
+pub says : SayExamples
 says = record {
   ping = refl;
   pong = refl;

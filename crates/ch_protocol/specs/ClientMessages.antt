@@ -4,8 +4,8 @@ use Rattle.std.specs.Prelude.{◌≡◌, ◌⊎◌, ℕ, Bool, ◌||◌, not, Li
 use Rattle.ch_base.specs.JsonTree.{Span, object, Members}
 use Rattle.ch_history.specs.ChannelName.{begins, is_good_name}
 use Rattle.ch_protocol.specs.ObjectMembers.{IsObjectText, AreDistinct, HasOne, HasString, HasOptional, HasSpelled}
-use Rattle.ch_protocol.specs.UserChannels.{is_user_channel}
-use Rattle.ch_protocol.specs.declared.error_codes.TheConstants.{MALFORMED_MESSAGE, UNKNOWN_EVENT, INVALID_CHANNEL_NAME, MESSAGE_TOO_LONG}
+use Rattle.ch_history.specs.UserChannels.{is_subscribable}
+use Rattle.ch_base.specs.declared.error_codes.TheConstants.{MALFORMED_MESSAGE, UNKNOWN_EVENT, INVALID_CHANNEL_NAME, MESSAGE_TOO_LONG}
 use Rattle.ch_protocol.specs.declared.limits.TheConstants.{LONGEST_TEXT, LONGEST_EVENT, LONGEST_BODY}
 use Rattle.ch_protocol.specs.declared.client_message.ClientMessage.{ClientMessage}
 use Rattle.ch_protocol.specs.declared.client_message.ClientMessage.TheVariants.{Ping, Pong, Subscribe, Unsubscribe, SignIn, Say}
@@ -65,10 +65,6 @@ SayShape name text ms (Say channel event body) =
 SayShape name text ms _ = ⊥
 
 -- ---- names and lengths
-
--- a channel to which sockets subscribe: a good name, or a user's own channel
-abbrev pub is_subscribable : List ℕ → Bool
-is_subscribable channel = is_good_name channel || is_user_channel channel
 
 -- the message of a shape, where its channel's name is good and it is within the lengths
 abbrev pub checked : ClientMessage → Verdict

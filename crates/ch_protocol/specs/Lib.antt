@@ -1,5 +1,4 @@
 pub mod ObjectMembers
-pub mod UserChannels
 pub mod ClientMessages
 pub mod ChannelData
 pub mod UserDataText

@@ -76,7 +76,7 @@ pub record Subscribes : Type 0 where
   pub ends : does [] 5 (Ok (Unsubscribe (codes "a"))) ≡ heard.Ask (Chan 0 (Leave 1 (codes "a") 5) ∷ [])
   pub own_one_stays : does [] 5 (Ok (Unsubscribe (codes "#server-to-user-w"))) ≡ heard.Nothing
 
-pub record Says : Type 0 where
+pub record SayExamples : Type 0 where
   pub ping : does [] 0 (Ok Ping) ≡ heard.Reply PongFrame
   pub pong : does [] 0 (Ok Pong) ≡ heard.Nothing
   pub no_message : does [] 0 (Err 4310) ≡ heard.Refuse 4310

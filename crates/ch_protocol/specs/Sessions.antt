@@ -20,14 +20,14 @@ use Rattle.ch_sig.specs.SignedText.{socket_text, user_text, authorization_text}
 use Rattle.ch_protocol.specs.ClientMessages.{Verdict}
 use Rattle.ch_protocol.specs.Readings.{Reading}
 use Rattle.ch_protocol.specs.Settling.{SettledAsk, count, user_of, accepted}
-use Rattle.ch_protocol.specs.UserChannels.{channel_user, is_user_channel}
+use Rattle.ch_history.specs.UserChannels.{channel_user, is_user_channel}
 use Rattle.ch_protocol.specs.declared.client_message.ClientMessage.TheVariants.{Ping, Pong, Subscribe, Unsubscribe, SignIn, Say}
 use Rattle.ch_protocol.specs.declared.client_message.UserData.{UserData}
 use Rattle.ch_protocol.specs.declared.ask.Ask.{Ask}
 use Rattle.ch_protocol.specs.declared.ask.Ask.TheVariants.{Chan, User}
 use Rattle.ch_protocol.specs.declared.ask.Made.{Made}
 use Rattle.ch_protocol.specs.declared.ask.Made.TheVariants as made
-use Rattle.ch_protocol.specs.declared.error_codes.TheConstants.{UNAUTHORIZED, RECONNECT, RATE_LIMIT_REACHED, ALREADY_SUBSCRIBED, NOT_SUBSCRIBED, INVALID_SIGNATURE, INVALID_CHANNEL_DATA, CLIENT_EVENT_REFUSED, TOO_MANY_SUBSCRIPTIONS, CHANNEL_FULL, INVALID_USER_DATA, ALREADY_SIGNED_IN, OUT_OF_MEMORY}
+use Rattle.ch_base.specs.declared.error_codes.TheConstants.{UNAUTHORIZED, RECONNECT, RATE_LIMIT_REACHED, ALREADY_SUBSCRIBED, NOT_SUBSCRIBED, INVALID_SIGNATURE, INVALID_CHANNEL_DATA, CLIENT_EVENT_REFUSED, TOO_MANY_SUBSCRIPTIONS, CHANNEL_FULL, INVALID_USER_DATA, ALREADY_SIGNED_IN, OUT_OF_MEMORY}
 use Rattle.ch_protocol.specs.declared.limits.TheConstants.{MAX_SUBSCRIPTIONS}
 use Rattle.ch_protocol.specs.declared.heard.Heard.{Heard}
 use Rattle.ch_protocol.specs.declared.heard.Heard.TheVariants as heard

@@ -7,7 +7,7 @@ use Rattle.std.specs.Str.Lossy.{utf8_lossy}
 use Rattle.form_urlencoded.specs.Form.{raw_pairs, decode}
 use Rattle.ch_history.specs.ChannelName.{begins}
 use Rattle.ch_history.specs.OpenRows.{is_empty}
-use Rattle.ch_protocol.specs.declared.error_codes.TheConstants.{UNKNOWN_APP, UNKNOWN_PATH, INVALID_VERSION, UNSUPPORTED_VERSION, NO_VERSION}
+use Rattle.ch_base.specs.declared.error_codes.TheConstants.{UNKNOWN_APP, UNKNOWN_PATH, INVALID_VERSION, UNSUPPORTED_VERSION, NO_VERSION}
 
 -- ---- the two parts of a target
 

@@ -19,7 +19,7 @@ AreIds text [] [] = Unit {0}
 AreIds text (v ∷ vs) (id ∷ ids) = IsStringOf text v id × IsTrue (is_user_id id) × AreIds text vs ids
 AreIds text _ _ = ⊥
 
--- an array of at most 100 good user ids
+-- an array of at most `LONGEST_WATCHLIST` good user ids
 pub record IsIdList (text : List ℕ) (vs : Items) (watchlist : List (List ℕ)) : Type 0 where
   pub few : length (items_of vs) ≤ LONGEST_WATCHLIST
   pub ids : List (List ℕ)

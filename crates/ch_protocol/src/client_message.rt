@@ -35,8 +35,8 @@ pub enum ClientMessage {
 /// "Watchlist events").
 #[derive(Debug, PartialEq, Eq, Drop)]
 pub struct UserData {
-    /// 1 to 128 bytes.
+    /// 1 to `MAX_USER_ID` bytes.
     pub id: Text,
-    /// At most 100 ids, none of them twice.
+    /// At most `LONGEST_WATCHLIST` ids, none of them twice.
     pub watchlist: TextList,
 }

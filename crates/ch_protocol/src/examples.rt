@@ -1,5 +1,5 @@
 ghost use Rattle.ch_protocol.specs.Examples.{Frames};
-ghost use Rattle.ch_protocol.specs.SessionExamples.{Subscribes, Says, SignsIn, Authorized, Outcomes, Settled};
+ghost use Rattle.ch_protocol.specs.SessionExamples.{Subscribes, SayExamples, SignsIn, Authorized, Outcomes, Settled};
 ghost use Rattle.ch_protocol.specs.TargetExamples.{TargetExamples};
 
 /// Frames of each kind have the texts that the definitions compute.
@@ -15,7 +15,7 @@ pub fn target_examples_hold()
 /// What a session does with messages, and what answers mean to it, is what the definitions compute.
 pub fn session_examples_hold()
     ensures subscribes { Subscribes }
-    ensures says { Says }
+    ensures says { SayExamples }
     ensures signs_in { SignsIn }
     ensures authorized { Authorized }
     ensures outcomes { Outcomes }

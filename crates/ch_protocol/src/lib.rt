@@ -8,20 +8,12 @@
 
 mod ask;
 mod client_message;
-mod error_codes;
 mod examples;
 mod heard;
 mod limits;
 
 pub use ask::{AnswerList, Ask, AskList, Made};
 pub use client_message::{ClientMessage, UserData};
-pub use error_codes::{
-    ALREADY_SIGNED_IN, ALREADY_SUBSCRIBED, CHANNEL_FULL, CLIENT_EVENT_REFUSED,
-    INVALID_CHANNEL_DATA, INVALID_CHANNEL_NAME, INVALID_SIGNATURE, INVALID_USER_DATA,
-    INVALID_VERSION, MALFORMED_MESSAGE, MESSAGE_TOO_LONG, NO_PONG, NO_VERSION, NOT_SUBSCRIBED,
-    OUT_OF_MEMORY, OVER_CAPACITY, RATE_LIMIT_REACHED, RECONNECT, TOO_MANY_SUBSCRIPTIONS,
-    UNAUTHORIZED, UNKNOWN_APP, UNKNOWN_EVENT, UNKNOWN_PATH, UNSUPPORTED_VERSION,
-};
 pub use examples::{examples_hold, session_examples_hold, target_examples_hold};
 pub use heard::{Heard, Settled};
 pub use limits::{

@@ -3,7 +3,7 @@ use Rattle.std.specs.Prelude.{◌≡◌, ℕ, ◌+◌, ◌-◌, nat_lt, nat_le, 
 use Rattle.ch_rate.specs.declared.limits.TheConstants.{LIMIT, WINDOW}
 
 -- whether one more is allowed now, after those that were accepted at these moments, the oldest first: there are
--- fewer than ten, or now is at least the tenth last plus 1,000
+-- fewer than `LIMIT`, or now is at least the first of the last `LIMIT` plus `WINDOW`
 abbrev pub rate_allows : List ℕ → ℕ → Bool
 rate_allows accepted now =
     nat_lt (length accepted) LIMIT || nat_le (slice_index accepted (length accepted - LIMIT) + WINDOW) now

@@ -1,4 +1,5 @@
-ghost use Rattle.std.specs.Prelude.{◌≡◌, ◌≤◌, ◌^◌};
+ghost use Rattle.std.specs.Prelude.{◌≡◌, ◌≤◌};
+ghost use Rattle.ch_base.specs.declared.limits.TheConstants.{LATEST_MOMENT};
 
 use crate::limits::{PATIENCE, SILENCE};
 use std::marker::Model;
@@ -34,7 +35,7 @@ impl Activity {
 
     /// A connection that was last heard at the moment `now`, with no ping out.
     pub fn new(now: u64) -> Activity
-        requires { now ≤ 10 ^ 15 }
+        requires { now ≤ LATEST_MOMENT }
         ensures { result ≡ quiet_from now }
     {
         Activity {
@@ -45,7 +46,7 @@ impl Activity {
 
     /// Notes that the connection was heard at the moment `now`, which ends a ping.
     pub fn heard(&mut self, now: u64)
-        requires { now ≤ 10 ^ 15 }
+        requires { now ≤ LATEST_MOMENT }
         ensures { self.new ≡ quiet_from now }
     {
         self.heard = now;
@@ -58,7 +59,7 @@ impl Activity {
     /// ping is then out since `now`. It is `Expired` exactly where a ping is out and `now` is at least the
     /// moment since when plus [`PATIENCE`].
     pub fn due(&mut self, now: u64) -> Due
-        requires { now ≤ 10 ^ 15 }
+        requires { now ≤ LATEST_MOMENT }
         ensures due { result ≡ due_of self.old now }
         ensures after { self.new ≡ quiet_after self.old now }
     {

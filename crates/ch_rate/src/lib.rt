@@ -2,7 +2,7 @@
 //!
 //! A [`Rate`] stands for the list of the moments at which client events were accepted, and allows one more
 //! exactly where that list does. An [`Activity`] is seen as when the connection was last heard and since when
-//! a ping is out. A moment is a number of milliseconds, at most 10^15. Nothing here takes memory.
+//! a ping is out. A moment is a number of milliseconds, at most `LATEST_MOMENT`. Nothing here takes memory.
 #![tactic(auto)]
 
 mod activity;

@@ -1,4 +1,5 @@
-ghost use Rattle.std.specs.Prelude.{◌≡◌, ◌≤◌, ◌^◌, ◌∷◌, ◌++◌, [], ℕ, List};
+ghost use Rattle.std.specs.Prelude.{◌≡◌, ◌≤◌, ◌∷◌, ◌++◌, [], ℕ, List};
+ghost use Rattle.ch_base.specs.declared.limits.TheConstants.{LATEST_MOMENT};
 
 use crate::limits::{LIMIT, WINDOW};
 use std::marker::Model;
@@ -40,9 +41,9 @@ impl Rate {
 
     /// Whether one more client event is allowed at the moment `now`.
     ///
-    /// It isn't exactly where ten were accepted, and `now` is below the tenth last moment plus 1,000.
+    /// It isn't exactly where [`LIMIT`] were accepted, and `now` is below the first of the last ones plus [`WINDOW`].
     pub fn allowed(&self, now: u64) -> bool
-        requires { now ≤ 10 ^ 15 }
+        requires { now ≤ LATEST_MOMENT }
         ensures { (accepted : List ℕ) → IsRateOf self.now accepted → result ≡ rate_allows accepted now }
     {
         self.kept < LIMIT || now.saturating_sub(self.moments[0]) >= WINDOW
@@ -50,7 +51,7 @@ impl Rate {
 
     /// Notes that a client event was accepted at the moment `now`.
     pub fn accept(&mut self, now: u64)
-        requires { now ≤ 10 ^ 15 }
+        requires { now ≤ LATEST_MOMENT }
         ensures { (accepted : List ℕ) → IsRateOf self.old accepted → IsRateOf self.new (accepted ++ now ∷ []) }
     {
         self.moments.rotate_left(1);

@@ -4,7 +4,8 @@ use Rattle.std.specs.Prelude.{Option, MatchBool}
 use Rattle.std.proofs.lemmas.List.Folds.{list_any-append}
 use Rattle.std.specs.Io.KnownBytes.{Consumes, IsAtEnd}
 use Rattle.ch_io.proofs.Known.{Consumes-then, Consumes-none}
-use Rattle.ch_transcript.specs.Lines.{longest_line, has_line_end}
+use Rattle.ch_transcript.specs.Lines.{has_line_end}
+use Rattle.ch_transcript.specs.declared.limits.TheConstants.{LONGEST_LINE}
 use Rattle.ch_replay.specs.Reading.{TakesToEnd, TakesAll, ReadsLine}
 use Rattle.ch_replay.specs.declared.line_reader.Next.TheVariants.{Whole, Last, Ended, Long, Failed, Memory}
 
@@ -47,7 +48,7 @@ Held-read {lo} {ln} {lk} {mk} {old} {line} {b} h c m = record {
   none = h.none;
 }
 
-pub Held-whole : {lo ln : Option (List ℕ)} {mo mn : ℕ} {old line now new line' : List ℕ} → Held lo ln mo mn old line now → TakesToEnd now new line line' → length line' ≤ longest_line → ReadsLine lo ln mo mn old Whole line' new
+pub Held-whole : {lo ln : Option (List ℕ)} {mo mn : ℕ} {old line now new line' : List ℕ} → Held lo ln mo mn old line now → TakesToEnd now new line line' → length line' ≤ LONGEST_LINE → ReadsLine lo ln mo mn old Whole line' new
 Held-whole {line} {new} h t short = record {
   bytes = h.bytes;
   consumed = h.consumed;
@@ -61,7 +62,7 @@ Held-whole {line} {new} h t short = record {
 }
 
 pub Held-long : {lo ln : Option (List ℕ)} {mo mn : ℕ} {old line now line' : List ℕ} (new : List ℕ) (is_whole : Bool) → Held lo ln mo mn old line now
-    → MatchBool is_whole (TakesToEnd now new line line') (TakesAll now new line line') → longest_line < length line' → ReadsLine lo ln mo mn old Long line' new
+    → MatchBool is_whole (TakesToEnd now new line line') (TakesAll now new line line') → LONGEST_LINE < length line' → ReadsLine lo ln mo mn old Long line' new
 unfolding Held-all
 Held-long {line} new true h t long =
     record {
@@ -99,7 +100,7 @@ Held-failed {line} h = record { bytes = h.bytes; consumed = h.consumed; limit = 
 pub Held-ended : {lo ln : Option (List ℕ)} {mo mn : ℕ} {old line new : List ℕ} → Held lo ln mo mn old line [] → line ≡ [] → IsAtEnd ln → ReadsLine lo ln mo mn old Ended line new
 Held-ended {line} h none end = record { bytes = h.bytes; consumed = h.consumed; limit = h.limit; gives = h.held ∙ append-nil line ∙ none; ended = end }
 
-pub Held-last : {lo ln : Option (List ℕ)} {mo mn : ℕ} {old line new : List ℕ} → Held lo ln mo mn old line [] → length line ≤ longest_line → 0 < length line → IsAtEnd ln → ReadsLine lo ln mo mn old Last line new
+pub Held-last : {lo ln : Option (List ℕ)} {mo mn : ℕ} {old line new : List ℕ} → Held lo ln mo mn old line [] → length line ≤ LONGEST_LINE → 0 < length line → IsAtEnd ln → ReadsLine lo ln mo mn old Last line new
 Held-last {line} h short some end = record { bytes = h.bytes; consumed = h.consumed; limit = h.limit; gives = (h.held ∙ append-nil line, h.none, short, some); ended = end }
 
 pub Held-part : {lo ln : Option (List ℕ)} {mo mn : ℕ} {old line now line' : List ℕ} (new : List ℕ) (is_whole : Bool) → is_whole ≡ false → Held lo ln mo mn old line now
@@ -108,6 +109,6 @@ Held-part new true is h t = absurd (cc)
 Held-part new false is h t = Held-all h t
 
 pub Held-given : {lo ln : Option (List ℕ)} {mo mn : ℕ} {old line now line' : List ℕ} (new : List ℕ) (is_whole : Bool) → is_whole ≡ true → Held lo ln mo mn old line now
-    → MatchBool is_whole (TakesToEnd now new line line') (TakesAll now new line line') → length line' ≤ longest_line → ReadsLine lo ln mo mn old Whole line' new
+    → MatchBool is_whole (TakesToEnd now new line line') (TakesAll now new line line') → length line' ≤ LONGEST_LINE → ReadsLine lo ln mo mn old Whole line' new
 Held-given new true is h t short = Held-whole h t short
 Held-given new false is h t short = absurd (cc)

@@ -5,7 +5,8 @@ use Rattle.std.proofs.Math.Seq.{take-length}
 use Rattle.std.proofs.lemmas.List.{take-append-drop}
 use Rattle.std.specs.Io.KnownBytes.{Consumes, Appends, IsAtEnd}
 use Rattle.ch_io.proofs.Known.{Consumes-then, Consumes-none, Appends-then, Appends-none}
-use Rattle.ch_transcript.specs.Lines.{longest_line, has_line_end}
+use Rattle.ch_transcript.specs.Lines.{has_line_end}
+use Rattle.ch_transcript.specs.declared.limits.TheConstants.{LONGEST_LINE}
 use Rattle.ch_transcript.specs.Printing.{error_line, long_line}
 use Rattle.ch_transcript.specs.Replayed.{Ran, IsPart, IsPrefix, Refuses, WritesLast}
 use Rattle.ch_config.specs.declared.config.Config.{Config}
@@ -156,7 +157,7 @@ front_of wrote text k = (
 )
 
 -- what was written is a front of the output of the lines so far and one more
-line_part : {config : Config} {n : ℕ} {p : Progress} {done wrote : List ℕ} {at_end : Type 0} (line new : List ℕ) → Carries config done wrote n p → has_line_end line ≡ false → length line ≤ longest_line
+line_part : {config : Config} {n : ℕ} {p : Progress} {done wrote : List ℕ} {at_end : Type 0} (line new : List ℕ) → Carries config done wrote n p → has_line_end line ≡ false → length line ≤ LONGEST_LINE
     → (x : Played) → Plays config p line (Some x) → (k : ℕ) → IsPart config at_end (done ++ (line ++ 10 ∷ new)) (wrote ++ take k x.text)
 line_part {done} {wrote} line new c none short x is k =
     let more = Carries-line line x c none short is in

@@ -1,7 +1,8 @@
 -- What the reader of lines gives.
 use Rattle.std.specs.Prelude.{◌≡◌, ℕ, false, ◌+◌, ◌<◌, ◌≤◌, List, [], ◌∷◌, ◌++◌, length, Option}
 use Rattle.std.specs.Io.KnownBytes.{Consumes, IsAtEnd}
-use Rattle.ch_transcript.specs.Lines.{longest_line, has_line_end}
+use Rattle.ch_transcript.specs.Lines.{has_line_end}
+use Rattle.ch_transcript.specs.declared.limits.TheConstants.{LONGEST_LINE}
 use Rattle.ch_replay.specs.declared.line_reader.Next.{Next}
 use Rattle.ch_replay.specs.declared.line_reader.Next.TheVariants.{Whole, Last, Ended, Long, Failed, Memory}
 
@@ -20,10 +21,10 @@ pub record TakesAll (old new line_old line_new : List ℕ) : Type 0 where
 
 -- what was read, with what was held before: seen; the line that is given, and what is held then
 abbrev pub NextGives : Next → List ℕ → List ℕ → List ℕ → Type 0
-NextGives Whole seen line new = (seen ≡ line ++ 10 ∷ new) × (has_line_end line ≡ false) × (length line ≤ longest_line)
-NextGives Last seen line new = (seen ≡ line) × (has_line_end line ≡ false) × (length line ≤ longest_line) × (0 < length line)
+NextGives Whole seen line new = (seen ≡ line ++ 10 ∷ new) × (has_line_end line ≡ false) × (length line ≤ LONGEST_LINE)
+NextGives Last seen line new = (seen ≡ line) × (has_line_end line ≡ false) × (length line ≤ LONGEST_LINE) × (0 < length line)
 NextGives Ended seen line new = seen ≡ []
-NextGives Long seen line new = ((more : List ℕ) × (seen ≡ line ++ more)) × (has_line_end line ≡ false) × (longest_line < length line)
+NextGives Long seen line new = ((more : List ℕ) × (seen ≡ line ++ more)) × (has_line_end line ≡ false) × (LONGEST_LINE < length line)
 NextGives Failed seen line new = (seen ≡ line) × (has_line_end line ≡ false)
 NextGives Memory seen line new = Unit {0}
 

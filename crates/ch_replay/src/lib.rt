@@ -5,8 +5,8 @@
 //! definition of a transcript's output in `ch_transcript`.
 #![tactic(auto)]
 
+mod fault_lines;
 mod line_reader;
-mod printing;
 mod replaying;
 
 pub use replaying::{decline, replay, write_last};

@@ -6,10 +6,11 @@ ghost use Rattle.ch_transcript.specs.Lines.{has_byte};
 
 use ch_base::Memory;
 use ch_io::{Got, Source};
+use ch_transcript::LONGEST_LINE;
 use std::marker::Model;
 
-/// The longest line, in bytes without its line end.
-const LONGEST_LINE: usize = 1_048_576;
+/// How many bytes are read at once at most.
+pub(crate) const PIECE: usize = 4_096;
 
 /// What the reader gives next.
 #[derive(Clone, Copy, Debug, PartialEq, Eq)]
@@ -28,19 +29,20 @@ pub enum Next {
 /// A reader of lines. Contracts see the bytes that it has read and not given.
 #[derive(Drop)]
 pub struct LineReader {
-    piece: [u8; 4096],
+    piece: [u8; PIECE],
     from: usize,
     to: usize,
 }
 
 impl Model for LineReader {
     ghost use Rattle.std.specs.Prelude.{◌-◌, ◌≤◌, List, ℕ, take, drop};
+    ghost use Rattle.ch_replay.specs.declared.line_reader.TheConstants.{PIECE};
 
     ghost Value = { List ℕ };
 
     ghost view = { λ r. take (r.to - r.from) (drop r.from r.piece) };
 
-    ghost invariant = { λ r. (r.from ≤ r.to) × (r.to ≤ 4096) };
+    ghost invariant = { λ r. (r.from ≤ r.to) × (r.to ≤ PIECE) };
 }
 
 impl LineReader {
@@ -50,7 +52,7 @@ impl LineReader {
         ensures { result ≡ [] }
     {
         LineReader {
-            piece: [0; 4096],
+            piece: [0; PIECE],
             from: 0,
             to: 0,
         }

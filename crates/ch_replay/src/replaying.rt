@@ -7,14 +7,14 @@ ghost use Rattle.ch_transcript.specs.Replayed.{Ran, WritesLast, status_of};
 ghost use Rattle.ch_transcript.specs.Outcomes.{Plays, Outcome, HasOutcome};
 ghost use Rattle.ch_transcript.specs.Progress.{Progress, beginning};
 ghost use Rattle.ch_config.specs.Config.{IsConfig};
-ghost use Rattle.ch_player.specs.Playing.{IsAt, IsSound, config_of};
+ghost use Rattle.ch_player.specs.Playing.{IsAt, IsSoundPlayer, config_of};
 ghost use Rattle.ch_replay.specs.ConfigLines.{config_or_line, fault_line, Declines};
 ghost use Rattle.ch_replay.specs.Playable.{IsPlayable};
 ghost use Rattle.ch_replay.specs.Serving.{Serves, Stops, EndsAt, Names};
 ghost use Rattle.ch_replay.specs.Words.{is_replay, usage_line};
 
+use crate::fault_lines::{error_line, fault_line, long_line};
 use crate::line_reader::{LineReader, Next};
-use crate::printing::{error_line, fault_line, long_line};
 use ch_base::Text;
 use ch_config::Config;
 use ch_config_text::{ConfigFault, read_config};
@@ -36,7 +36,7 @@ use std::alloc::Global;
 /// | 5 | a read of the source failed |
 /// | 6 | a write to the sink failed |
 /// | 7 | want of memory |
-/// | 8 | a line is longer than 1,048,576 bytes; it is named last |
+/// | 8 | a line is longer than `LONGEST_LINE`; it is named last |
 pub fn replay<S: Source, K: Sink>(
     alloc: Global,
     words: &[Text],
@@ -159,11 +159,11 @@ fn serve<K: Sink>(
     out: &mut Vec<u8>,
     sink: &mut K,
 ) -> Result<(), Ending>
-    requires sound { IsSound player.old }
+    requires sound { IsSoundPlayer player.old }
     ensures serves { (p : Progress) → IsAt player.old p → MatchResult result
         (λ _. Serves player.new (K.told sink.old) (K.told sink.new) (Plays (config_of player.old) p line.now))
         (λ ending. Stops ending (K.told sink.old) (K.told sink.new) (Plays (config_of player.old) p line.now)) }
-    ensures sound { OnOk result (IsSound player.new) }
+    ensures sound { OnOk result (IsSoundPlayer player.new) }
     ensures over { config_of player.new ≡ config_of player.old }
     ensures later { K.faults sink.old ≤ K.faults sink.new }
     ensures failed { result ≡ Err Ending.WriteFailed → Rose (K.faults sink.old) (K.faults sink.new) }

@@ -2,7 +2,7 @@
 use Rattle.std.specs.Prelude.{List, All, IsTrue}
 use Rattle.ch_base.specs.JsonText.{IsJsonString}
 use Rattle.ch_history.specs.Limits.{is_event_name}
-use Rattle.ch_protocol.specs.ClientMessages.{is_subscribable}
+use Rattle.ch_history.specs.UserChannels.{is_subscribable}
 use Rattle.ch_requests.specs.declared.trigger.Trigger.{Trigger}
 
 -- the names are good, and the body is a JSON string

@@ -11,7 +11,7 @@ use Rattle.ch_names.specs.SocketIds.{socket_id_of}
 use Rattle.ch_names.specs.declared.socket_id.SocketId.{SocketId}
 use Rattle.ch_names.specs.declared.socket_id.SocketId.TheVariants.{Here}
 use Rattle.ch_sig.specs.Parameters.{value_of}
-use Rattle.ch_protocol.specs.UserChannels.{channel_user, is_user_channel}
+use Rattle.ch_history.specs.UserChannels.{channel_user, is_user_channel}
 use Rattle.ch_protocol.specs.declared.ask.Ask.{Ask}
 use Rattle.ch_protocol.specs.declared.ask.Ask.TheVariants.{Chan, User}
 use Rattle.ch_requests.specs.declared.limits.TheConstants.{LONGEST_DATA}

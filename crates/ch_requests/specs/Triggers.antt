@@ -5,8 +5,8 @@ use Rattle.ch_base.specs.JsonTree.{Span, Tree, plain, string, array, object, Ite
 use Rattle.ch_base.specs.JsonText.{Unescapes}
 use Rattle.ch_json.specs.Parts.{part, items_of}
 use Rattle.ch_history.specs.Limits.{is_event_name}
+use Rattle.ch_history.specs.UserChannels.{is_subscribable}
 use Rattle.ch_names.specs.SocketIds.{is_part}
-use Rattle.ch_protocol.specs.ClientMessages.{is_subscribable}
 use Rattle.ch_protocol.specs.ObjectMembers.{IsObjectText, AreDistinct, HasNone, HasOne, HasString, HasOptional, IsStringOf}
 use Rattle.ch_protocol.specs.UserDataText.{first_places}
 use Rattle.ch_requests.specs.declared.limits.TheConstants.{MOST_CHANNELS, MOST_EVENTS}

@@ -1,3 +1,6 @@
+ghost use Rattle.std.specs.Prelude.{◌≡◌};
+ghost use Rattle.ch_requests.specs.Routes.{method_of};
+
 use crate::head::Head;
 use ch_base::{Bytes, Text};
 use ch_sig::Params;
@@ -17,6 +20,22 @@ pub enum Route {
     ChannelUsers(Text),
     /// `POST /apps/<id>/users/<user>/terminate_connections`
     Terminate(Text),
+}
+
+impl Route {
+    /// The method of its requests.
+    pub fn method(&self) -> &'static str
+        ensures { result.now ≡ method_of self.now }
+    {
+        match self {
+            Route::Events => "POST",
+            Route::BatchEvents => "POST",
+            Route::Channels => "GET",
+            Route::Channel(_) => "GET",
+            Route::ChannelUsers(_) => "GET",
+            Route::Terminate(_) => "POST",
+        }
+    }
 }
 
 /// A whole request.

@@ -13,7 +13,8 @@ use Rattle.ch_transcript.specs.declared.commands.Command.{Command}
 use Rattle.ch_transcript.specs.declared.commands.Command.TheVariants.{Join, Publish, Api, Hooks}
 use Rattle.ch_transcript.specs.declared.commands.Method.{Method}
 use Rattle.ch_transcript.specs.declared.commands.Line.TheVariants.{Skipped, Bad}
-use Rattle.ch_transcript.specs.Commands.{latest_moment, first_part, more_parts, number_in, open_in, say_in, join_in, sign_in_in, lose_in, tick_in, tail_in, publish_of, publish_on, publish_in, except_in, method_in, is_plain, query_in, or_empty, api_of, api_on, api_in, http_of, command_by, command_in, command_after, timed, is_skipped, line_in, line_of, IsCommand, IsLine}
+use Rattle.ch_transcript.specs.Commands.{first_part, more_parts, number_in, open_in, say_in, join_in, sign_in_in, lose_in, tick_in, tail_in, publish_of, publish_on, publish_in, except_in, method_in, is_plain, query_in, or_empty, api_of, api_on, api_in, http_of, command_by, command_in, command_after, timed, is_skipped, line_in, line_of, IsCommand, IsLine}
+use Rattle.ch_base.specs.declared.limits.TheConstants.{LATEST_MOMENT}
 
 and_left : (a b : Bool) → (a && b) ≡ true → a ≡ true
 and_left true b h = refl
@@ -31,10 +32,10 @@ chosen P false x y first second = second
 abbrev Good : Option Command → Type 0
 Good o = IfSome o IsCommand
 
-number_in-is : (text : List ℕ) → IfSome (number_in text) (λ n. n ≤ latest_moment)
+number_in-is : (text : List ℕ) → IfSome (number_in text) (λ n. n ≤ LATEST_MOMENT)
 number_in-is text =
-    chosen (λ (o : Option ℕ). IfSome o (λ n. n ≤ latest_moment)) (nat_le (digits_value 10 text) latest_moment && bytes_eq (decimal (digits_value 10 text)) text) (Some (digits_value 10 text)) None
-    (λ is. leb-true (digits_value 10 text) latest_moment (and_left (nat_le (digits_value 10 text) latest_moment) (bytes_eq (decimal (digits_value 10 text)) text) is)) tt
+    chosen (λ (o : Option ℕ). IfSome o (λ n. n ≤ LATEST_MOMENT)) (nat_le (digits_value 10 text) LATEST_MOMENT && bytes_eq (decimal (digits_value 10 text)) text) (Some (digits_value 10 text)) None
+    (λ is. leb-true (digits_value 10 text) LATEST_MOMENT (and_left (nat_le (digits_value 10 text) LATEST_MOMENT) (bytes_eq (decimal (digits_value 10 text)) text) is)) tt
 
 open_in-is : (target : List ℕ) (more : Option (List ℕ)) → Good (open_in target more)
 open_in-is target None = tt
@@ -134,7 +135,7 @@ command_after-is : (rest : Option (List ℕ)) → Good (command_after rest)
 command_after-is None = tt
 command_after-is (Some text) = command_in-is (first_part text) (more_parts text)
 
-timed-is : (at : Option ℕ) (command : Option Command) → IfSome at (λ n. n ≤ latest_moment) → Good command → IsLine (timed at command)
+timed-is : (at : Option ℕ) (command : Option Command) → IfSome at (λ n. n ≤ LATEST_MOMENT) → Good command → IsLine (timed at command)
 timed-is None command small is = tt
 timed-is (Some at) None small is = tt
 timed-is (Some at) (Some command) small is = (small, is)

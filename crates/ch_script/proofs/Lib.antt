@@ -1,2 +1,4 @@
 pub mod Carried
 pub mod Numbers
+pub mod HexTexts
+pub mod ShardTails

@@ -5,7 +5,8 @@ use Rattle.std.specs.Fmt.{decimal}
 use Rattle.std.specs.Str.Parse.{digits_value}
 use Rattle.std.proofs.lemmas.Bool.{leb-true}
 use Rattle.std.proofs.lemmas.Slice.Eq.{bytes_eq-Decides}
-use Rattle.ch_transcript.specs.Commands.{number_in, latest_moment}
+use Rattle.ch_transcript.specs.Commands.{number_in}
+use Rattle.ch_base.specs.declared.limits.TheConstants.{LATEST_MOMENT}
 
 and_left : (a b : Bool) → (a && b) ≡ true → a ≡ true
 and_left true b h = refl
@@ -23,11 +24,11 @@ pub texts_differ : (xs ys : List ℕ) → bytes_eq xs ys ≡ false → xs ≡ ys
 texts_differ xs ys is e = absurd (let h : bytes_eq xs ys ≡ true = (bytes_eq-Decides xs ys).1 e in cc)
 
 -- what is the text of no number is none
-pub number_in-none : (bs : List ℕ) → ((n : ℕ) → n ≤ latest_moment → bs ≡ decimal n → ⊥) → None ≡ number_in bs
+pub number_in-none : (bs : List ℕ) → ((n : ℕ) → n ≤ LATEST_MOMENT → bs ≡ decimal n → ⊥) → None ≡ number_in bs
 number_in-none bs h =
     let v = digits_value 10 bs in
-    let t = nat_le v latest_moment && bytes_eq (decimal v) bs in
+    let t = nat_le v LATEST_MOMENT && bytes_eq (decimal v) bs in
     (elim t as (λ (b : Bool). t ≡ b → None ≡ cond b (Some v) None) [
-      | true ↦ λ is. absurd (h v (leb-true v latest_moment (and_left (nat_le v latest_moment) (bytes_eq (decimal v) bs) is)) (sym (texts_equal (decimal v) bs (and_right (nat_le v latest_moment) (bytes_eq (decimal v) bs) is))))
+      | true ↦ λ is. absurd (h v (leb-true v LATEST_MOMENT (and_left (nat_le v LATEST_MOMENT) (bytes_eq (decimal v) bs) is)) (sym (texts_equal (decimal v) bs (and_right (nat_le v LATEST_MOMENT) (bytes_eq (decimal v) bs) is))))
       | false ↦ λ is. refl
     ]) refl

@@ -1,13 +1,11 @@
 ghost use Rattle.std.specs.Prelude.{◌≡◌, IfOk, ℕ, None, Option};
 ghost use Rattle.std.specs.Option.{option_copied};
-ghost use Rattle.ch_history.specs.ChannelName.{is_good_name};
-ghost use Rattle.ch_history.specs.Limits.{is_event_name};
 ghost use Rattle.ch_transcript.specs.Commands.{first_part, more_parts, number_in, open_in, say_in, join_of, join_in, sign_in_in, lose_in, tick_in, tail_in, publish_of, publish_on, publish_in, except_in, command_by, command_in};
 
 use crate::parts::{first_part, more_parts, read_number};
 use crate::requests::{read_api, read_http};
 use ch_base::{Memory, Text};
-use ch_names::{event_name, kind};
+use ch_names::{is_event_name, is_good_name};
 use ch_transcript::Command;
 use std::alloc::Global;
 
@@ -93,7 +91,7 @@ fn join_of(alloc: Global, number: u64, more: &str) -> Result<Option<Command>, Me
     ensures { IfOk result (λ command. command ≡ join_of number more.now) }
 {
     let channel = first_part(more);
-    if !is_channel(channel) {
+    if !is_good_name(channel) {
         return Ok(None);
     }
     let channel = Text::of(alloc, channel)?;
@@ -176,7 +174,7 @@ fn publish_of(
     let Some(body) = body else {
         return Ok(None);
     };
-    let is_good = is_channel(channel) && is_event(event);
+    let is_good = is_good_name(channel) && is_event_name(event);
     if !is_good {
         return Ok(None);
     }
@@ -201,18 +199,4 @@ fn read_except(alloc: Global, rest: &str) -> Result<Option<Command>, Memory>
         Some(more) => read_publish(alloc, Some(number), more),
         None => Ok(None),
     }
-}
-
-/// Whether it is a channel's good name.
-fn is_channel(name: &str) -> bool
-    ensures { result ≡ is_good_name name.now }
-{
-    kind(name).is_ok()
-}
-
-/// Whether it is an event's name.
-fn is_event(name: &str) -> bool
-    ensures { result ≡ is_event_name name.now }
-{
-    event_name(name).is_ok()
 }

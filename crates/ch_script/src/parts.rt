@@ -2,11 +2,8 @@ ghost use Rattle.std.specs.Prelude.{◌≡◌, IfOk};
 ghost use Rattle.std.specs.Option.{option_copied};
 ghost use Rattle.ch_transcript.specs.Commands.{first_part, more_parts, number_in};
 
-use ch_base::Memory;
+use ch_base::{LATEST_MOMENT, Memory};
 use std::alloc::Global;
-
-/// The latest moment, in milliseconds, and the greatest number that a line may have.
-const LATEST_MOMENT: u64 = 1_000_000_000_000_000;
 
 /// The text before the first blank.
 pub fn first_part(text: &str) -> &str
@@ -28,7 +25,7 @@ pub fn more_parts(text: &str) -> Option<&str>
     }
 }
 
-/// A number in decimal, without a leading zero: it is printed again and compared.
+/// A number in decimal, without a leading zero, and at most `LATEST_MOMENT`: it is printed again and compared.
 pub fn read_number(alloc: Global, text: &str) -> Result<Option<u64>, Memory>
     ensures { IfOk result (λ number. number ≡ number_in text.now) }
 {

@@ -1,5 +1,6 @@
 -- How connections come in and are numbered.
 use Rattle.std.specs.Prelude.{◌≡◌, ◌+◌, ◌<◌, ◌≤◌, ◌==◌, ℕ, List, [], ◌∷◌, map, All, if◌then◌else◌}
+use Rattle.ch_intake.specs.declared.limits.TheConstants.{PLACES}
 use Rattle.ch_intake.specs.declared.step.Step.{Step}
 use Rattle.ch_intake.specs.declared.step.Step.TheVariants.{Push, Pop}
 use Rattle.ch_intake.specs.Orders.{GrowsBy, HeldOnce}
@@ -28,7 +29,7 @@ module _ {L : Type 0} where
   Comes caller nobody old new = new ≡ old
   Comes caller (waits item) old new = (item.arrival.number ≡ old.numbered + 1) × (new.numbered ≡ old.numbered + 1)
       × GrowsBy (Push caller item) old.seen new.seen
-  Comes caller closed old new = (new.numbered ≡ old.numbered + 1) × (new.seen ≡ old.seen) × HeldOnce 128 caller old.seen
+  Comes caller closed old new = (new.numbered ≡ old.numbered + 1) × (new.seen ≡ old.seen) × HeldOnce PLACES caller old.seen
 
   -- the same of several calls, one after another
   abbrev pub AllCome : ℕ → List (Came L) → Door L → Door L → Type 0

@@ -1,5 +1,6 @@
 //! The connections that a worker's thread takes from the intake.
-ghost use Rattle.std.specs.Prelude.{◌≡◌, ◌≤◌, ◌^◌, IfOk};
+ghost use Rattle.std.specs.Prelude.{◌≡◌, ◌≤◌, IfOk};
+ghost use Rattle.ch_base.specs.declared.limits.TheConstants.{LATEST_MOMENT};
 ghost use Rattle.ch_io.specs.Moments.{GivesMoment};
 
 use crate::numbered::Numbered;
@@ -36,9 +37,9 @@ impl<'a, L: Link, P: Park<L>> IntakeArrivals<'a, L, P> {
         }
     }
 
-    /// The moment now, in milliseconds, at most 10^15.
+    /// The moment now, in milliseconds, at most `LATEST_MOMENT`.
     pub fn now(&mut self) -> u64
-        ensures { result ≤ 10 ^ 15 }
+        ensures { result ≤ LATEST_MOMENT }
     {
         self.park.now()
     }

@@ -8,14 +8,13 @@ use Rattle.ch_base.specs.declared.frame.Frame.TheVariants.{Succeeded}
 use Rattle.ch_base.specs.declared.memory.Memory.{Memory}
 use Rattle.ch_config.specs.declared.config.Config.{Config}
 use Rattle.ch_history.specs.ChannelName.{is_good_name}
-use Rattle.ch_protocol.specs.ClientMessages.{is_subscribable}
 use Rattle.ch_protocol.specs.Readings.{Reading, Reads}
 use Rattle.ch_protocol.specs.Sessions.{Session, judged, judged_as, subscribes, unsubscribes, ask_on, is_given}
 use Rattle.ch_protocol.specs.Settling.{user_of}
-use Rattle.ch_protocol.specs.UserChannels.{is_user_channel}
+use Rattle.ch_history.specs.UserChannels.{is_user_channel, is_subscribable}
 use Rattle.ch_protocol.specs.declared.client_message.ClientMessage.{ClientMessage}
 use Rattle.ch_protocol.specs.declared.heard.Heard.TheVariants as heard
-use Rattle.ch_protocol.specs.declared.error_codes.TheConstants.{INVALID_SIGNATURE}
+use Rattle.ch_base.specs.declared.error_codes.TheConstants.{INVALID_SIGNATURE}
 use Rattle.ch_session.specs.declared.judged.Judged.{Judged}
 use Rattle.ch_session.specs.Judging.{Hears, IsReady, user_data_of}
 use Rattle.ch_session.specs.Kept.{Kept}

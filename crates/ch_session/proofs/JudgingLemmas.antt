@@ -12,7 +12,8 @@ use Rattle.ch_config.specs.declared.config.Config.{Config}
 use Rattle.ch_history.specs.ChannelName.{is_good_name, is_presence}
 use Rattle.ch_history.specs.Limits.{IsMoment, IsSocket, is_user_id}
 use Rattle.ch_history.specs.WellFormed.{IsMemberOf, IsWellFormed}
-use Rattle.ch_history.specs.Placement.{BelongsTo, shard_of, fnv_from, fnv_offset}
+use Rattle.ch_history.specs.Placement.{BelongsTo, shard_of, fnv_from}
+use Rattle.ch_history.specs.declared.limits.TheConstants.{FNV_OFFSET}
 use Rattle.ch_protocol.specs.Sessions.{socket_id, is_given, signs_in}
 use Rattle.ch_protocol.specs.Settling.{SettledAsk, user_of}
 use Rattle.ch_protocol.specs.declared.client_message.UserData.{UserData}
@@ -24,7 +25,7 @@ use Rattle.ch_session.specs.declared.judged.Judged.{Judged}
 use Rattle.ch_session.specs.declared.waiting.Waiting.{Waiting}
 use Rattle.ch_session.specs.declared.waiting.Waiting.TheVariants.{Nothing, Join, Call, SignIn}
 use Rattle.ch_session.specs.Judging.{known, IsJoiner, IsReady, IsSoundAsk, sign_in_by, watch_by}
-use Rattle.ch_session.specs.Kept.{Kept, IsSession, IsOver}
+use Rattle.ch_session.specs.Kept.{Kept, IsSession, HasShardsOf}
 use Rattle.ch_session.specs.Signed.{signed_for_user}
 use Rattle.ch_session.specs.Waits.{AreWatchesOn, IsCallOn}
 
@@ -47,7 +48,7 @@ member_of_kind false channel (Some m) kind there joins = let no : true ≡ false
 
 -- a Join is
 pub join_ready : (s : Kept) (config : Config) (shard now : ℕ) (channel : List ℕ) (member : Option Member) (r : Result Judged Memory)
-    → IsOver s config → IsSocket s.number → IsMoment now → IsTrue (is_good_name channel) → IsJoiner channel member
+    → HasShardsOf s config → IsSocket s.number → IsMoment now → IsTrue (is_good_name channel) → IsJoiner channel member
     → (is_presence channel && is_none member) ≡ false → s.told.subscriptions < MAX_SUBSCRIPTIONS
     → shard ≡ shard_of channel s.chans → shard < s.chans
     → IfOk r (λ j. j ≡ record { heard = heard.Ask (Chan shard (chan.Join s.number channel member now) ∷ []); waits = Join shard })
@@ -72,7 +73,7 @@ join_ready s config shard now channel member (Ok j) over socket moment good join
 
 -- any other call on a channel shard is
 pub call_ready : (s : Kept) (config : Config) (shard : ℕ) (call : ChanCall) (r : Result Judged Memory)
-    → IsOver s config → IsWellFormed call → BelongsTo (shard, s.chans) call → IsCallOn shard (Chan shard call)
+    → HasShardsOf s config → IsWellFormed call → BelongsTo (shard, s.chans) call → IsCallOn shard (Chan shard call)
     → s.told.subscriptions ≤ MAX_SUBSCRIPTIONS → shard < s.chans
     → IfOk r (λ j. j ≡ record { heard = heard.Ask (Chan shard call ∷ []); waits = Call shard })
     → IfOk r (IsReady s config [])
@@ -97,7 +98,7 @@ refusal_ready s config code j few made =
 -- ---- sign-ins
 
 shard_below : (name : List ℕ) (shards : ℕ) → 1 ≤ shards → shard_of name shards < shards
-shard_below name shards some = mod_below (fnv_from fnv_offset name) shards some
+shard_below name shards some = mod_below (fnv_from FNV_OFFSET name) shards some
 
 are_watches : (socket now shards : ℕ) (watchlist : List (List ℕ)) → AreWatchesOn (map (λ id. shard_of id shards) watchlist) (map (watch_by socket now shards) watchlist)
 are_watches socket now shards [] = tt
@@ -121,7 +122,7 @@ fit_watches chans shards most (id ∷ ids) some within =
 
 -- a sign-in with its watches is
 pub sign_in_ready : (s : Kept) (config : Config) (now : ℕ) (id user_data : List ℕ) (watchlist : List (List ℕ)) (r : Result Judged Memory)
-    → IsOver s config → 1 ≤ config.user_shards → IsSocket s.number → IsMoment now → IsTrue (is_user_id id) → All (λ x. IsTrue (is_user_id x)) watchlist
+    → HasShardsOf s config → 1 ≤ config.user_shards → IsSocket s.number → IsMoment now → IsTrue (is_user_id id) → All (λ x. IsTrue (is_user_id x)) watchlist
     → s.told.subscriptions ≤ MAX_SUBSCRIPTIONS
     → IfOk r (λ j. j ≡ record {
       heard = heard.Ask (sign_in_by s.number now config.user_shards id ∷ map (watch_by s.number now config.user_shards) watchlist);

@@ -7,7 +7,7 @@ use Rattle.ch_history.specs.Limits.{IsSocket, IsMoment}
 use Rattle.ch_protocol.specs.declared.ask.Ask.{Ask}
 use Rattle.ch_protocol.specs.Settling.{SettledAsk}
 use Rattle.ch_session.specs.Judging.{IsSoundAsk}
-use Rattle.ch_session.specs.Kept.{Kept, IsOver, IsSession, losses_left}
+use Rattle.ch_session.specs.Kept.{Kept, HasShardsOf, IsSession, losses_left}
 use Rattle.ch_session.specs.Losses.{IsNextUsed, losses_from, loss_at}
 use Rattle.ch_session.specs.Told.{uses_place}
 
@@ -68,7 +68,7 @@ pub next_some : (used : List Bool) (from place : ℕ) → IsNextUsed used from N
 next_some used from place none next = false≢true (sym (none place next.0 next.1) ∙ next.2)
 
 -- a loss is well formed, and its shard is there
-pub loss_sound : (s : Kept) (config : Config) (now place : ℕ) → IsSocket s.number → IsMoment now → IsOver s config → place < length s.told.used
+pub loss_sound : (s : Kept) (config : Config) (now place : ℕ) → IsSocket s.number → IsMoment now → HasShardsOf s config → place < length s.told.used
     → IsSoundAsk config (loss_at s.chans s.number now place)
 loss_sound s config now place socket moment over within = elim (cases_lt place s.chans) [
   | inl low ↦ subst (λ a. IsSoundAsk config a) (sym (cond-true (nat_lt place s.chans) _ _ (lt-ltb place s.chans low)))

@@ -23,11 +23,11 @@ use Rattle.ch_protocol.specs.declared.heard.Settled.{Settled}
 use Rattle.ch_protocol.specs.declared.heard.Settled.TheVariants as settled
 use Rattle.ch_session.specs.declared.waiting.Waiting.{Waiting}
 use Rattle.ch_session.specs.declared.waiting.Waiting.TheVariants.{Nothing, Join, Call, SignIn, Watches}
-use Rattle.ch_session.specs.Kept.{Kept, IsSession, IsSettled, IsFit, IsSound, left_after}
+use Rattle.ch_session.specs.Kept.{Kept, IsSession, IsSettled, IsFit, IsSoundSession, left_after}
 use Rattle.ch_history.specs.AnswerKinds.{IsUserAnswerTo}
 use Rattle.ch_protocol.specs.Asks.{ComesOf}
 use Rattle.ch_protocol.specs.declared.limits.TheConstants.{MAX_SUBSCRIPTIONS}
-use Rattle.ch_session.specs.Told.{Told, Tells, accepted_with, used_with}
+use Rattle.ch_session.specs.Told.{Told, IsToldBy, accepted_with, used_with}
 use Rattle.ch_session.specs.Waits.{IsJoinOn, IsCallOn, IsSignInOn, IsWatchOn, AreWatchesOn, AwaitsNext, Awaits, HoldsData, chan_shard_of, waits_on}
 use Rattle.ch_session.proofs.Telling.{is_at, at_chan, at_user, tells_more, or_none}
 
@@ -125,15 +125,15 @@ none_left (settled.End code) = refl
 
 -- a session with one more settled ask
 stands_more : (old new : Kept) (x : SettledAsk) → new.start ≡ old.start → new.number ≡ old.number → new.chans ≡ old.chans
-    → ((asks : List SettledAsk) → Tells asks old.chans old.told → Tells (asks ++ x ∷ []) old.chans new.told)
+    → ((asks : List SettledAsk) → IsToldBy asks old.chans old.told → IsToldBy (asks ++ x ∷ []) old.chans new.told)
     → (start number : ℕ) (asks : List SettledAsk) → IsSession old start number asks → IsSession new start number (asks ++ x ∷ [])
 stands_more old new x same_start same_number same_chans more start number asks stands = record {
   started = same_start ∙ stands.started;
   numbered = same_number ∙ stands.numbered;
-  tells = subst (λ n. Tells (asks ++ x ∷ []) n new.told) (sym same_chans) (more asks stands.tells);
+  tells = subst (λ n. IsToldBy (asks ++ x ∷ []) n new.told) (sym same_chans) (more asks stands.tells);
 }
 
-pub chan_settled : (old new : Kept) (a : ChanAnswer) (now : ℕ) (result : Settled) → IsSound old
+pub chan_settled : (old new : Kept) (a : ChanAnswer) (now : ℕ) (result : Settled) → IsSoundSession old
     → new.start ≡ old.start → new.number ≡ old.number → new.chans ≡ old.chans → new.waits ≡ Nothing
     → new.told.subscriptions ≡ count_after old.told.subscriptions (made.Chan a) → new.told.user ≡ old.told.user
     → ((moments : List ℕ) → IsRateOf old.told.rate moments → IsRateOf new.told.rate (accepted_with moments a now))

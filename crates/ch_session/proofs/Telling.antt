@@ -13,7 +13,7 @@ use Rattle.ch_rate.specs.Rate.{IsRateOf}
 use Rattle.ch_protocol.specs.declared.ask.Ask.{Ask}
 use Rattle.ch_protocol.specs.declared.ask.Ask.TheVariants.{Chan, User}
 use Rattle.ch_protocol.specs.Settling.{SettledAsk, count_after, count, signed_in_by, user_of, accepted_by, accepted, holds, is_on_chan, is_on_user, uses_chan, uses_user}
-use Rattle.ch_session.specs.Told.{Told, Tells, uses_place, used_with}
+use Rattle.ch_session.specs.Told.{Told, IsToldBy, uses_place, used_with}
 
 -- ---- the four values
 
@@ -91,12 +91,12 @@ set_or used place k there =
 
 -- this is what the settled asks tell with one more, which is on the shard at the place
 pub tells_more : (asks : List SettledAsk) (chans : ℕ) (old new : Told) (x : SettledAsk) (place : ℕ)
-    → Tells asks chans old → place < length old.used → ((k : ℕ) → is_at chans x.ask k ≡ (place == k))
+    → IsToldBy asks chans old → place < length old.used → ((k : ℕ) → is_at chans x.ask k ≡ (place == k))
     → new.subscriptions ≡ count_after old.subscriptions x.answer
     → new.user ≡ option_or old.user (signed_in_by x)
     → IsRateOf new.rate (accepted asks ++ filter_map accepted_by (x ∷ []))
     → new.used ≡ used_with old.used place x.answer
-    → Tells (asks ++ x ∷ []) chans new
+    → IsToldBy (asks ++ x ∷ []) chans new
 tells_more asks chans old new x place tells there at subscriptions user rate used = record {
   subscriptions = subscriptions ∙ ap (λ n. count_after n x.answer) tells.subscriptions ∙ sym (count_push asks x);
   user = user ∙ ap (λ u. option_or u (signed_in_by x)) tells.user ∙ sym (user_push asks x);

@@ -20,7 +20,7 @@ use Rattle.ch_protocol.specs.declared.ask.Ask.{Ask}
 use Rattle.ch_protocol.specs.declared.ask.Ask.TheVariants.{Chan, User}
 use Rattle.ch_protocol.specs.declared.heard.Heard.{Heard}
 use Rattle.ch_protocol.specs.declared.heard.Heard.TheVariants as heard
-use Rattle.ch_protocol.specs.declared.error_codes.TheConstants.{UNAUTHORIZED}
+use Rattle.ch_base.specs.declared.error_codes.TheConstants.{UNAUTHORIZED}
 use Rattle.ch_session.specs.declared.judged.Judged.{Judged}
 use Rattle.ch_session.specs.Kept.{Kept, IsFit}
 use Rattle.ch_session.specs.Waits.{Awaits, HoldsData}

@@ -1,5 +1,6 @@
 -- What a session keeps, and for which settled asks it stands.
 use Rattle.std.specs.Prelude.{◌≡◌, ◌+◌, ◌-◌, ◌<◌, ◌≤◌, ℕ, List, [], ◌∷◌, length, All}
+use Rattle.ch_config.specs.declared.limits.TheConstants.{MAX_SHARDS}
 use Rattle.ch_config.specs.declared.config.Config.{Config}
 use Rattle.ch_history.specs.Limits.{IsSocket}
 use Rattle.ch_rate.specs.Quiet.{Quiet}
@@ -14,7 +15,7 @@ use Rattle.ch_session.specs.declared.waiting.Waiting.TheVariants.{Nothing, Join,
 use Rattle.ch_session.specs.Losses.{losses_from, loss_at}
 use Rattle.ch_protocol.specs.Asks.{ComesOf}
 use Rattle.ch_protocol.specs.declared.limits.TheConstants.{MAX_SUBSCRIPTIONS}
-use Rattle.ch_session.specs.Told.{Told, Tells, uses_place}
+use Rattle.ch_session.specs.Told.{Told, IsToldBy, uses_place}
 use Rattle.ch_session.specs.Waits.{Awaits, HoldsData}
 
 -- What a session keeps: the second of the server's start, its number, the number of channel shards, what its settled asks
@@ -32,10 +33,10 @@ pub record Kept : Type 0 where
 pub record IsSession (s : Kept) (start number : ℕ) (asks : List SettledAsk) : Type 0 where
   pub started : s.start ≡ start
   pub numbered : s.number ≡ number
-  pub tells : Tells asks s.chans s.told
+  pub tells : IsToldBy asks s.chans s.told
 
 -- the session is over the shards of the configuration
-pub record IsOver (s : Kept) (config : Config) : Type 0 where
+pub record HasShardsOf (s : Kept) (config : Config) : Type 0 where
   pub chans : s.chans ≡ config.chan_shards
   pub shards : length s.told.used ≡ config.chan_shards + config.user_shards
 
@@ -79,5 +80,5 @@ IsFit told chans (SignIn shard user user_data watches) =
 IsFit told chans (Watches shards) = (told.subscriptions ≤ MAX_SUBSCRIPTIONS) × All (λ k. chans + k < length told.used) shards
 
 -- there is a channel shard, the numbers are within their bounds, and what waits is fit
-abbrev pub IsSound : Kept → Type 0
-IsSound s = (1 ≤ s.chans) × (s.chans ≤ length s.told.used) × (length s.told.used ≤ 128) × IsSocket s.number × IsFit s.told s.chans s.waits
+abbrev pub IsSoundSession : Kept → Type 0
+IsSoundSession s = (1 ≤ s.chans) × (s.chans ≤ length s.told.used) × (length s.told.used ≤ MAX_SHARDS + MAX_SHARDS) × IsSocket s.number × IsFit s.told s.chans s.waits

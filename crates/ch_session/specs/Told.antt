@@ -20,7 +20,7 @@ abbrev pub uses_place : ℕ → List SettledAsk → ℕ → Bool
 uses_place chans asks place = if nat_lt place chans then uses_chan asks place else uses_user asks (place - chans)
 
 -- this is what the settled asks have told, where there are so many channel shards
-pub record Tells (asks : List SettledAsk) (chans : ℕ) (told : Told) : Type 0 where
+pub record IsToldBy (asks : List SettledAsk) (chans : ℕ) (told : Told) : Type 0 where
   pub subscriptions : told.subscriptions ≡ count asks
   pub user : told.user ≡ user_of asks
   pub rate : IsRateOf told.rate (accepted asks)

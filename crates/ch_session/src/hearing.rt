@@ -3,24 +3,23 @@ ghost use Rattle.ch_config.specs.Config.{IsConfig};
 ghost use Rattle.ch_frames.specs.Checked.{IsGoodMessage, IsGoodUser};
 ghost use Rattle.ch_history.specs.Limits.{IsMoment};
 ghost use Rattle.ch_rate.specs.Quiet.{quiet_from};
-ghost use Rattle.ch_protocol.specs.ClientMessages.{is_subscribable};
 ghost use Rattle.ch_protocol.specs.Settling.{SettledAsk};
 ghost use Rattle.ch_protocol.specs.Sessions.{judged, judged_as, subscribes, unsubscribes, is_given};
-ghost use Rattle.ch_protocol.specs.UserChannels.{channel_user, is_user_channel};
+ghost use Rattle.ch_history.specs.UserChannels.{channel_user, is_user_channel, is_subscribable};
 ghost use Rattle.ch_session.specs.Judging.{known, asks_of, user_data_in, user_data_of, IsSoundAsk, IsJoinerBy, IsJoiner, IsGoodReading, IsReady, EndsAsUnauthorized, Hears};
-ghost use Rattle.ch_session.specs.Kept.{IsSession, IsOver};
+ghost use Rattle.ch_session.specs.Kept.{IsSession, HasShardsOf};
 ghost use Rattle.ch_session.specs.ReadTexts.{reading_of};
 ghost use Rattle.ch_session.specs.Waits.{Awaits};
 ghost use Rattle.ch_session.specs.declared.waiting.Waiting.{Waiting};
 ghost use Rattle.ch_base.specs.declared.frame.Frame.TheVariants.{Succeeded};
 
 use crate::judged::Judged;
-use crate::names::{channel_user, is_user_channel};
 use crate::reading::{Read, read_text};
 use crate::session::Session;
-use ch_base::{Frame, Member, Memory, Text};
+use ch_base::{Frame, INVALID_SIGNATURE, Member, Memory, OUT_OF_MEMORY, Text};
 use ch_config::Config;
-use ch_protocol::{ClientMessage, Heard, INVALID_SIGNATURE, OUT_OF_MEMORY, UserData};
+use ch_names::{is_user_channel, user_channel};
+use ch_protocol::{ClientMessage, Heard, UserData};
 
 impl Session {
     /// Hears a text at the moment `now`, while nothing waits to be settled.
@@ -30,7 +29,7 @@ impl Session {
     pub fn hear(&mut self, config: &Config, text: &Text, now: u64) -> Heard
         requires idle { self.old.waits ≡ Waiting.Nothing }
         requires config { IsConfig config.now }
-        requires over { IsOver self.old config.now }
+        requires over { HasShardsOf self.old config.now }
         requires now { IsMoment now }
         ensures judged { (start number : ℕ) (asks : List SettledAsk) → IsSession self.old start number asks →
             (result ≡ Heard.Refuse OUT_OF_MEMORY) ⊎ Hears (known config.now start number asks now) text.now self.new.waits result }
@@ -54,7 +53,7 @@ impl Session {
     /// What the text comes to.
     fn judge_text(&self, config: &Config, text: &Text, now: u64) -> Result<Judged, Memory>
         requires config { IsConfig config.now }
-        requires over { IsOver self.now config.now }
+        requires over { HasShardsOf self.now config.now }
         requires now { IsMoment now }
         ensures hears { (start number : ℕ) (asks : List SettledAsk) → IsSession self.now start number asks →
             IfOk result (λ j. Hears (known config.now start number asks now) text.now j.waits j.heard) }
@@ -67,7 +66,7 @@ impl Session {
     /// What a text that is read so comes to.
     fn judge(&self, config: &Config, read: Read, now: u64) -> Result<Judged, Memory>
         requires config { IsConfig config.now }
-        requires over { IsOver self.now config.now }
+        requires over { HasShardsOf self.now config.now }
         requires now { IsMoment now }
         requires good { IsGoodReading read.verdict read.member read.user }
         ensures judged { (start number : ℕ) (asks : List SettledAsk) → IsSession self.now start number asks →
@@ -113,7 +112,7 @@ impl Session {
         now: u64,
     ) -> Result<Judged, Memory>
         requires config { IsConfig config.now }
-        requires over { IsOver self.now config.now }
+        requires over { HasShardsOf self.now config.now }
         requires now { IsMoment now }
         requires good { IsGoodMessage message }
         requires joiner { IsJoinerBy message member }
@@ -154,7 +153,7 @@ impl Session {
         now: u64,
     ) -> Result<Judged, Memory>
         requires config { IsConfig config.now }
-        requires over { IsOver self.now config.now }
+        requires over { HasShardsOf self.now config.now }
         requires now { IsMoment now }
         requires channel { IsTrue (is_subscribable channel) }
         requires member { IsJoiner channel member }
@@ -184,7 +183,7 @@ impl Session {
     /// An unsubscribe. From a user's own channel it does nothing.
     fn hear_unsubscribe(&self, config: &Config, channel: Text, now: u64) -> Result<Judged, Memory>
         requires config { IsConfig config.now }
-        requires over { IsOver self.now config.now }
+        requires over { HasShardsOf self.now config.now }
         requires now { IsMoment now }
         requires channel { IsTrue (is_subscribable channel) }
         ensures judged { (start number : ℕ) (asks : List SettledAsk) → IsSession self.now start number asks →
@@ -201,7 +200,7 @@ impl Session {
     fn owns(&self, channel: &str) -> Option<bool>
         ensures { result ≡ option_map (is_given self.now.told.user) (channel_user channel.now) }
     {
-        let id = channel_user(channel)?;
+        let id = user_channel(channel)?;
         Some(self.is_signed_in_as(id))
     }
 

@@ -8,21 +8,20 @@ ghost use Rattle.ch_names.specs.KindMeaning.{meaning};
 ghost use Rattle.ch_protocol.specs.Settling.{SettledAsk};
 ghost use Rattle.ch_protocol.specs.Sessions.{channel_auth, is_given, subscribes_to, ask_on, says};
 ghost use Rattle.ch_base.specs.declared.channel.ChanCall.TheVariants.{Leave};
-ghost use Rattle.ch_session.specs.Kept.{IsSession, IsOver};
+ghost use Rattle.ch_session.specs.Kept.{IsSession, HasShardsOf};
 ghost use Rattle.ch_session.specs.Judging.{known, IsJoiner, IsReady};
 
 use crate::authorization::{authorizes_channel, socket_id};
 use crate::judged::Judged;
-use crate::names::kind_of;
 use crate::session::Session;
 use crate::waiting::Waiting;
-use ch_base::{ChanCall, Member, Memory, Text};
-use ch_config::Config;
-use ch_names::{Kind, shard_of};
-use ch_protocol::{
-    CLIENT_EVENT_REFUSED, Heard, INVALID_CHANNEL_DATA, INVALID_SIGNATURE, RATE_LIMIT_REACHED,
-    TOO_MANY_SUBSCRIPTIONS,
+use ch_base::{
+    CLIENT_EVENT_REFUSED, ChanCall, INVALID_CHANNEL_DATA, INVALID_SIGNATURE, Member, Memory,
+    RATE_LIMIT_REACHED, TOO_MANY_SUBSCRIPTIONS, Text,
 };
+use ch_config::Config;
+use ch_names::{Kind, kind_of, shard_of};
+use ch_protocol::Heard;
 
 impl Session {
     /// A subscribe to a channel that is no user's own.
@@ -36,7 +35,7 @@ impl Session {
         now: u64,
     ) -> Result<Judged, Memory>
         requires config { IsConfig config.now }
-        requires over { IsOver self.now config.now }
+        requires over { HasShardsOf self.now config.now }
         requires now { IsMoment now }
         requires channel { IsTrue (is_good_name channel) }
         requires member { IsJoiner channel member }
@@ -91,7 +90,7 @@ impl Session {
         now: u64,
     ) -> Result<Judged, Memory>
         requires config { IsConfig config.now }
-        requires over { IsOver self.now config.now }
+        requires over { HasShardsOf self.now config.now }
         requires now { IsMoment now }
         requires channel { IsTrue (is_good_name channel) }
         ensures judged { (start number : ℕ) (asks : List SettledAsk) → IsSession self.now start number asks →
@@ -117,7 +116,7 @@ impl Session {
         now: u64,
     ) -> Result<Judged, Memory>
         requires config { IsConfig config.now }
-        requires over { IsOver self.now config.now }
+        requires over { HasShardsOf self.now config.now }
         requires now { IsMoment now }
         requires channel { IsTrue (is_good_name channel) }
         requires event { IsTrue (is_event_name event) }

@@ -6,18 +6,17 @@
 //! an ask, and `next_loss` goes through the shards that the session uses, each once.
 #![tactic(auto)]
 
+mod account;
 mod authorization;
 mod hearing;
 mod judged;
 mod judging;
-mod names;
 mod reading;
 mod session;
 mod settling;
 mod shard_row;
 mod signing_in;
 mod start_fault;
-mod tally;
 mod target;
 mod waiting;
 

@@ -3,16 +3,16 @@ ghost use Rattle.std.specs.Option.{option_copied};
 ghost use Rattle.ch_frames.specs.Checked.{IsGoodMessage, IsGoodUser};
 ghost use Rattle.ch_history.specs.ChannelName.{is_presence};
 ghost use Rattle.ch_history.specs.WellFormed.{IsMember};
+ghost use Rattle.ch_history.specs.UserChannels.{is_subscribable};
 ghost use Rattle.ch_protocol.specs.ChannelData.{TellsMember};
-ghost use Rattle.ch_protocol.specs.ClientMessages.{is_subscribable};
 ghost use Rattle.ch_protocol.specs.Readings.{Reads, Joins, SignsIn, TellsJoiner};
 ghost use Rattle.ch_protocol.specs.UserDataText.{TellsUser};
 ghost use Rattle.ch_session.specs.Judging.{IsJoiner, IsJoinerBy, IsGoodReading};
 ghost use Rattle.ch_session.specs.ReadTexts.{reading_of};
 
-use crate::names::is_presence;
 use ch_base::{Member, Memory, Text};
 use ch_frames::{Refused, Unread, member_of, parse, user_of};
+use ch_names::is_presence;
 use ch_protocol::{ClientMessage, UserData};
 use std::alloc::Global;
 

@@ -8,18 +8,18 @@ ghost use Rattle.ch_protocol.specs.Sessions.{outcome};
 ghost use Rattle.ch_protocol.specs.Targets.{target_refusal};
 ghost use Rattle.ch_protocol.specs.declared.ask.Ask.{Ask};
 ghost use Rattle.ch_session.specs.Judging.{IsSoundAsk};
-ghost use Rattle.ch_session.specs.Kept.{IsSession, IsOver, MaySettle, left_after, losses_left};
+ghost use Rattle.ch_session.specs.Kept.{IsSession, HasShardsOf, MaySettle, left_after, losses_left};
 ghost use Rattle.ch_session.specs.Losses.{IsNextUsed, IsNextLoss, loss_at};
 ghost use Rattle.ch_session.specs.StartFaults.{IsFaultOf};
 ghost use Rattle.ch_session.specs.Waits.{Awaits, HoldsData};
 
+use crate::account::Account;
 use crate::start_fault::StartFault;
-use crate::tally::Tally;
 use crate::target::target_refusal;
 use crate::waiting::Waiting;
-use ch_base::{ChanCall, UserCall};
+use ch_base::{ChanCall, MALFORMED_MESSAGE, UserCall};
 use ch_config::Config;
-use ch_protocol::{Ask, Heard, MALFORMED_MESSAGE};
+use ch_protocol::{Ask, Heard};
 use ch_rate::{Activity, Due};
 use std::alloc::Global;
 use std::marker::Model;
@@ -27,14 +27,14 @@ use std::marker::Model;
 /// The session of one connection.
 ///
 /// Contracts see what it keeps, and say by `IsSession` of `specs/` for which settled asks it stands. A
-/// moment is a number of milliseconds, at most 10^15.
+/// moment is a number of milliseconds, at most `LATEST_MOMENT`.
 #[derive(Drop)]
 pub struct Session {
     pub(crate) alloc: Global,
     pub(crate) start: u64,
     pub(crate) number: u64,
     pub(crate) chans: u64,
-    pub(crate) told: Tally,
+    pub(crate) told: Account,
     pub(crate) waits: Waiting,
     activity: Activity,
     // A place in the row of the channel shards and then the user shards.
@@ -42,13 +42,13 @@ pub struct Session {
 }
 
 impl Model for Session {
-    ghost use Rattle.ch_session.specs.Kept.{Kept, IsSound};
+    ghost use Rattle.ch_session.specs.Kept.{Kept, IsSoundSession};
 
     ghost Value = { Kept };
 
     ghost view = { λ s. record { start = s.start; number = s.number; chans = s.chans; told = s.told; waits = s.waits; quiet = s.activity; lost = s.lost } };
 
-    ghost invariant = { λ s. IsSound (record { start = s.start; number = s.number; chans = s.chans; told = s.told; waits = s.waits; quiet = s.activity; lost = s.lost }) };
+    ghost invariant = { λ s. IsSoundSession (record { start = s.start; number = s.number; chans = s.chans; told = s.told; waits = s.waits; quiet = s.activity; lost = s.lost }) };
 }
 
 impl Session {
@@ -67,7 +67,7 @@ impl Session {
         requires now { IsMoment now }
         ensures opens { OnOk result (target_refusal config.now.key target.now ≡ None) }
         ensures stands { IfOk result (λ s. IsSession s start number []) }
-        ensures over { IfOk result (λ s. IsOver s config.now) }
+        ensures over { IfOk result (λ s. HasShardsOf s config.now) }
         ensures quiet { IfOk result (λ s. s.quiet ≡ quiet_from now) }
         ensures idle { IfOk result (λ s. s.waits ≡ Waiting.Nothing) }
         ensures owes { IfOk result (λ s. s.lost ≡ 0) }
@@ -81,7 +81,7 @@ impl Session {
             start,
             number,
             chans: config.chan_shards,
-            told: Tally::new(alloc, config.chan_shards + config.user_shards)?,
+            told: Account::new(alloc, config.chan_shards + config.user_shards)?,
             waits: Waiting::Nothing,
             activity: Activity::new(now),
             lost: 0,
@@ -138,7 +138,7 @@ impl Session {
     pub fn next_loss(&self, now: u64) -> Option<Ask>
         ensures next { IsNextLoss self.now.told.used self.now.lost (loss_at self.now.chans self.now.number now) result }
         ensures left { (start number : ℕ) (asks : List SettledAsk) → IsSession self.now start number asks → result ≡ slice_get (losses_left self.now asks now) 0 }
-        ensures sound { (config : Config) → IsOver self.now config → IsMoment now → IfSome result (IsSoundAsk config) }
+        ensures sound { (config : Config) → HasShardsOf self.now config → IsMoment now → IfSome result (IsSoundAsk config) }
     {
         match self.told.next_used(self.lost) {
             Some(place) => Some(loss_at(self.chans, self.number, now, place)),

@@ -12,10 +12,11 @@ ghost use Rattle.ch_session.specs.Waits.{Awaits, HoldsData, chan_shard_of};
 
 use crate::session::Session;
 use crate::waiting::Waiting;
-use ch_base::{ChanAnswer, Frame, Text, UserAnswer};
-use ch_protocol::{
-    ALREADY_SUBSCRIBED, CHANNEL_FULL, Made, NOT_SUBSCRIBED, OUT_OF_MEMORY, RECONNECT, Settled,
+use ch_base::{
+    ALREADY_SUBSCRIBED, CHANNEL_FULL, ChanAnswer, Frame, NOT_SUBSCRIBED, OUT_OF_MEMORY, RECONNECT,
+    Text, UserAnswer,
 };
+use ch_protocol::{Made, Settled};
 use std::mem;
 
 impl Session {

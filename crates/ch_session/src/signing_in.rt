@@ -5,7 +5,7 @@ ghost use Rattle.ch_history.specs.Limits.{IsMoment};
 ghost use Rattle.ch_history.specs.Placement.{shard_of};
 ghost use Rattle.ch_protocol.specs.Settling.{SettledAsk};
 ghost use Rattle.ch_protocol.specs.Sessions.{signs_in};
-ghost use Rattle.ch_session.specs.Kept.{IsSession, IsOver};
+ghost use Rattle.ch_session.specs.Kept.{IsSession, HasShardsOf};
 ghost use Rattle.ch_session.specs.Judging.{known, IsReady, sign_in_by, watch_by};
 
 use crate::authorization::{authorizes_user, socket_id};
@@ -13,12 +13,10 @@ use crate::judged::Judged;
 use crate::session::Session;
 use crate::shard_row::ShardRow;
 use crate::waiting::Waiting;
-use ch_base::{Memory, Text, UserCall};
+use ch_base::{ALREADY_SIGNED_IN, INVALID_USER_DATA, Memory, Text, UNAUTHORIZED, UserCall};
 use ch_config::Config;
 use ch_names::shard_of;
-use ch_protocol::{
-    ALREADY_SIGNED_IN, Ask, AskList, Heard, INVALID_USER_DATA, UNAUTHORIZED, UserData,
-};
+use ch_protocol::{Ask, AskList, Heard, UserData};
 use std::alloc::Global;
 
 impl Session {
@@ -32,7 +30,7 @@ impl Session {
         now: u64,
     ) -> Result<Judged, Memory>
         requires config { IsConfig config.now }
-        requires over { IsOver self.now config.now }
+        requires over { HasShardsOf self.now config.now }
         requires now { IsMoment now }
         requires user { IfSome user IsGoodUser }
         ensures judged { (start number : ℕ) (asks : List SettledAsk) → IsSession self.now start number asks →

@@ -4,7 +4,7 @@ use ch_base::Memory;
 #[derive(Clone, Copy, Debug, PartialEq, Eq)]
 pub enum StartFault {
     /// The target is refused with this code: `UNKNOWN_PATH`, `UNKNOWN_APP`, `NO_VERSION`, `INVALID_VERSION`
-    /// or `UNSUPPORTED_VERSION` of `ch_protocol`.
+    /// or `UNSUPPORTED_VERSION` of `ch_base`.
     Code(u16),
     /// There is no memory.
     Memory,

@@ -4,8 +4,9 @@ ghost use Rattle.std.specs.List.{list_all, list_any};
 ghost use Rattle.ch_history.specs.ChannelName.{begins};
 ghost use Rattle.ch_protocol.specs.Targets.{target_refusal, path_of, query_of, app_in, app_prefix, is_app_path, is_slash, version_in, version_refusal, form_text, first_value};
 
-use ch_base::{Memory, Text};
-use ch_protocol::{INVALID_VERSION, NO_VERSION, UNKNOWN_APP, UNKNOWN_PATH, UNSUPPORTED_VERSION};
+use ch_base::{
+    INVALID_VERSION, Memory, NO_VERSION, Text, UNKNOWN_APP, UNKNOWN_PATH, UNSUPPORTED_VERSION,
+};
 use form_urlencoded::{decode, raw_pairs};
 use std::alloc::Global;
 

@@ -8,7 +8,7 @@ use Rattle.ch_history.specs.declared.rows.Subscription.{Subscription}
 use Rattle.ch_history.specs.Entries.{ChanEntry}
 use Rattle.ch_history.specs.Deliveries.{for_owner}
 use Rattle.ch_history.specs.Subscriptions.{settles, on_channel, is_on}
-use Rattle.ch_history.specs.Frames.{welcome, arrival}
+use Rattle.ch_history.specs.Frames.{welcome, member_added_frames}
 use Rattle.ch_history.specs.Answers.{is_crowded}
 use Rattle.ch_history.proofs.Lists.{filter-none, list_any-false}
 use Rattle.ch_outbox.specs.Outbox.{frames_of}
@@ -36,7 +36,7 @@ anew old new now n at off fits changes =
       subs = changes.subs_now ∙ ap (λ ys. ys ++ n ∷ []) (sym (filter-none (λ s. settles s e) old.subs (none_own old.subs n.socket n.channel off)));
       latest = keeps old new now changes.latest;
       frames = λ v. changes.frames v
-          ∙ ap (λ xs. frames_of old.outbox v ++ for_owner v (welcome n.channel (on_channel xs n.channel) (kept_at old now n.channel) n ++ arrival n.channel (on_channel old.subs n.channel) n.member))
+          ∙ ap (λ xs. frames_of old.outbox v ++ for_owner v (welcome n.channel (on_channel xs n.channel) (kept_at old now n.channel) n ++ member_added_frames n.channel (on_channel old.subs n.channel) n.member))
           (sym changes.subs_now);
       log = log-occur old new now (join_hooks old now n) changes.hooks;
       held = held-occur old new now (join_hooks old now n) changes.hooks;

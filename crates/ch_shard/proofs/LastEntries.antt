@@ -4,7 +4,8 @@ use Rattle.std.proofs.lemmas.List.{map-append, length-map, drop-append-le, drop-
 use Rattle.std.proofs.Math.Seq.{drop-nil}
 use Rattle.circular_buffer.specs.Buffer.{keep_last}
 use Rattle.ch_history.specs.Entries.{ChanEntry, ChanHistory}
-use Rattle.ch_shard.specs.Tail.{brief_of, max_tail, tail_of}
+use Rattle.ch_shard.specs.Tail.{brief_of, tail_of}
+use Rattle.ch_history.specs.declared.limits.TheConstants.{LONGEST_TAIL}
 
 drop_twice : {X : Type 0} (j k : ℕ) (xs : List X) → drop j (drop k xs) ≡ drop (k + j) xs
 drop_twice j zero xs = let same : j ≡ 0 + j = omega arith in ap (λ n. drop n xs) same
@@ -30,5 +31,5 @@ last-push f m xs x some =
     ∙ sym (ap (map f) (drop-append-le n xs (x ∷ []) below) ∙ map-append f (drop n xs) (x ∷ []))
 
 -- the last entries, and the new one
-pub tail-push : (h : ChanHistory) (e : ChanEntry) → keep_last max_tail (tail_of h ++ brief_of e ∷ []) ≡ tail_of (h ++ e ∷ [])
-tail-push h e = last-push brief_of max_tail h e (omega arith)
+pub tail-push : (h : ChanHistory) (e : ChanEntry) → keep_last LONGEST_TAIL (tail_of h ++ brief_of e ∷ []) ≡ tail_of (h ++ e ∷ [])
+tail-push h e = last-push brief_of LONGEST_TAIL h e (omega arith)

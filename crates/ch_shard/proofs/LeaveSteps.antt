@@ -9,7 +9,7 @@ use Rattle.ch_history.specs.declared.rows.Subscription.{Subscription}
 use Rattle.ch_history.specs.Entries.{ChanEntry}
 use Rattle.ch_history.specs.Deliveries.{for_owner}
 use Rattle.ch_history.specs.Subscriptions.{on_channel, is_on, channels_in}
-use Rattle.ch_history.specs.Frames.{departure}
+use Rattle.ch_history.specs.Frames.{member_removed_frames}
 use Rattle.ch_history.specs.Webhooks.{parting}
 use Rattle.ch_history.specs.Held.{held_after, hooks_after}
 use Rattle.ch_outbox.specs.Outbox.{frames_of}
@@ -33,7 +33,7 @@ ends old new now w socket c at there changes =
       answered = sym (ap (λ b. cond b Left NotOn) there);
       subs = changes.subs_now ∙ sym (append-nil (without_one old.subs socket c));
       latest = keeps old new now changes.latest;
-      frames = λ v. changes.frames v ∙ ap (λ zs. frames_of old.outbox v ++ for_owner v (departure c ys zs socket)) after;
+      frames = λ v. changes.frames v ∙ ap (λ zs. frames_of old.outbox v ++ for_owner v (member_removed_frames c ys zs socket)) after;
       log = log-occur old new now (leave_hooks old.subs c socket) changes.hooks ∙ ap (λ zs. old.log ++ hooks_after now (parting c ys zs socket) old.held) after;
       held = held-occur old new now (leave_hooks old.subs c socket) changes.hooks ∙ ap (λ zs. held_after now (parting c ys zs socket) old.held) after;
       room = λ _. room-occur old new now (leave_hooks old.subs c socket) changes.hooks;
@@ -77,8 +77,8 @@ loses old new now w socket at a gives =
       latest = keeps old new now gives.1.latest;
       frames = λ v. gives.1.frames v
           ∙ ap (λ fs. frames_of old.outbox v ++ for_owner v fs)
-          (flat_map-same (λ c. leave_frames old.subs c socket) (λ c. departure c (on_channel old.subs c) (on_channel new.subs c) socket) its
-          (λ c. ap (λ zs. departure c (on_channel old.subs c) zs socket) (after c)));
+          (flat_map-same (λ c. leave_frames old.subs c socket) (λ c. member_removed_frames c (on_channel old.subs c) (on_channel new.subs c) socket) its
+          (λ c. ap (λ zs. member_removed_frames c (on_channel old.subs c) zs socket) (after c)));
       log = log-occur old new now events gives.1.hooks ∙ ap (λ ks. old.log ++ hooks_after now ks old.held) same;
       held = held-occur old new now events gives.1.hooks ∙ ap (λ ks. held_after now ks old.held) same;
       room = λ _. room-occur old new now events gives.1.hooks;

@@ -10,7 +10,7 @@ use Rattle.ch_history.specs.Subscriptions.{on_channel, channels_in}
 use Rattle.ch_history.specs.ChannelName.{is_presence, is_cache}
 use Rattle.ch_history.specs.Presence.{user_in, has_user, rows_in}
 use Rattle.ch_shard.specs.Parts.{Parts, kept_at, join_frames}
-use Rattle.ch_history.specs.Frames.{to, latest_frame, arrival, is_gone, departure_of}
+use Rattle.ch_history.specs.Frames.{to, latest_frame, member_added_frames, is_gone, member_removed_of}
 use Rattle.ch_shard.specs.Parting.{others, leave_frames}
 
 -- an owner is a caller's number
@@ -28,7 +28,7 @@ pub told_owned : (frame : Frame) (p : Subscription → Bool) (c : List ℕ) (xs 
 told_owned frame p c xs all =
     All-map OwnsFrame (to frame) (filter p (on_channel xs c)) (All-filter p OwnsSub (on_channel xs c) (on_channel_owned xs c all))
 
-departure_owned : (c : List ℕ) (before after : List Subscription) (id : Option (List ℕ)) → All OwnsSub after → All OwnsFrame (departure_of c before after id)
+departure_owned : (c : List ℕ) (before after : List Subscription) (id : Option (List ℕ)) → All OwnsSub after → All OwnsFrame (member_removed_of c before after id)
 departure_owned c before after None all = All-nil OwnsFrame
 departure_owned c before after (Some id) all =
     elim (is_gone c before after id) as (λ b. All OwnsFrame (cond b (map (to (Removed c id)) after) [])) [
@@ -50,7 +50,7 @@ flat_map_owned f (c ∷ cs) each = All-append OwnsFrame (f c) (flat_map f cs) (e
 pub lost_owned : (xs : List Subscription) (socket : ℕ) → All OwnsSub xs → All OwnsFrame (flat_map (λ c. leave_frames xs c socket) (channels_in xs socket))
 lost_owned xs socket all = flat_map_owned (λ c. leave_frames xs c socket) (channels_in xs socket) (λ c. leave_owned xs c socket all)
 
-arrival_owned : (c : List ℕ) (before : List Subscription) (member : Option Member) → All OwnsSub before → All OwnsFrame (arrival c before member)
+arrival_owned : (c : List ℕ) (before : List Subscription) (member : Option Member) → All OwnsSub before → All OwnsFrame (member_added_frames c before member)
 arrival_owned c before None all = All-nil OwnsFrame
 arrival_owned c before (Some m) all =
     elim (has_user c before m.user_id) as (λ b. All OwnsFrame (cond b [] (map (to (Added c m)) before))) [
@@ -69,6 +69,6 @@ join_owned old now n all below =
       | true ↦ All-cons OwnsFrame (to (latest_frame c (kept_at old now c)) n) [] below (All-nil OwnsFrame)
       | false ↦ All-nil OwnsFrame
     ] in
-    All-append OwnsFrame (to first n ∷ news) (arrival c (on_channel old.subs c) n.member)
+    All-append OwnsFrame (to first n ∷ news) (member_added_frames c (on_channel old.subs c) n.member)
     (All-cons OwnsFrame (to first n) news below news_owned)
     (arrival_owned c (on_channel old.subs c) n.member (on_channel_owned old.subs c all))

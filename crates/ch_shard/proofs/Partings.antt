@@ -11,7 +11,7 @@ use Rattle.ch_history.specs.declared.rows.Subscription.{Subscription}
 use Rattle.ch_history.specs.ChannelName.{is_presence}
 use Rattle.ch_history.specs.Subscriptions.{on_channel}
 use Rattle.ch_history.specs.Presence.{user_in, has_user}
-use Rattle.ch_history.specs.Frames.{to, is_gone, departure_of}
+use Rattle.ch_history.specs.Frames.{to, is_gone, member_removed_of}
 use Rattle.ch_history.specs.Webhooks.{removed, vacated, parting}
 use Rattle.ch_history.specs.WellFormed.{IsMemberOf}
 use Rattle.ch_history.proofs.Lists.{list_any-filter, list_any-same}
@@ -24,7 +24,7 @@ use Rattle.ch_shard.proofs.Lists.{is_empty-filter}
 
 -- The user that is gone
 
-pub departs : (c : List ℕ) (before after : List Subscription) (id : Option (List ℕ)) → departure_of c before after id ≡ farewell c (gone_of c before after id) after
+pub departs : (c : List ℕ) (before after : List Subscription) (id : Option (List ℕ)) → member_removed_of c before after id ≡ farewell c (gone_of c before after id) after
 departs c before after None = refl
 departs c before after (Some id) =
     elim (is_gone c before after id) as (λ b. cond b (map (to (Removed c id)) after) [] ≡ farewell c (cond b (Some id) None) after) [

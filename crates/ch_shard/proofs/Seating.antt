@@ -8,7 +8,7 @@ use Rattle.ch_base.specs.declared.channel.ChanAnswer.{ChanAnswer}
 use Rattle.ch_base.specs.Growth.{entry}
 use Rattle.ch_history.specs.Entries.{ChanHistory}
 use Rattle.ch_history.specs.Placement.{BelongsTo, IsLegalAt}
-use Rattle.ch_shard.specs.Kept.{Kept}
+use Rattle.ch_shard.specs.ShardState.{ShardState}
 use Rattle.ch_shard.specs.Stands.{Stands}
 use Rattle.ch_shard.specs.Seats.{StandsAt}
 
@@ -17,7 +17,7 @@ pub nothing_legal : (place : ℕ × ℕ) → IsLegalAt place []
 nothing_legal place = record { legal = tt; placed = All-nil (λ e. BelongsTo place e.call) }
 
 -- a served call is one entry more of what the seat stands for
-pub served : (old new : Kept) (place : ℕ × ℕ) (caller : ℕ) (call : ChanCall) (r : Result ChanAnswer Memory) → BelongsTo place call
+pub served : (old new : ShardState) (place : ℕ × ℕ) (caller : ℕ) (call : ChanCall) (r : Result ChanAnswer Memory) → BelongsTo place call
     → ((h : ChanHistory) → Stands old h → MatchResult r (λ answer. Stands new (h ++ entry caller call answer ∷ [])) (λ m. Stands new h))
     → IfOk r (λ answer. (h : ChanHistory) → StandsAt old place h → StandsAt new place (h ++ entry caller call answer ∷ []))
 served old new place caller call (Ok answer) belongs stands = λ h was. let now = stands h was.0 in (

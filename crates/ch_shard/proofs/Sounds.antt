@@ -13,18 +13,18 @@ use Rattle.ch_history.specs.Answers.{is_crowded}
 use Rattle.ch_history.proofs.Lists.{filter-none, list_any-filter}
 use Rattle.ch_history.proofs.Texts.{same_text}
 use Rattle.ch_presence.specs.declared.present.Present.{Present}
-use Rattle.ch_presence.specs.Members.{present_on, members_on, ids_on, is_of, is_present, user_of, without, with_newcomer}
+use Rattle.ch_presence.specs.Members.{present_on, members_on, ids_on, is_row_of, is_present, user_of, without, with_newcomer}
 use Rattle.ch_presence.specs.Members as row
 use Rattle.ch_presence.specs.Subscribed.{HasMember, row_of, rows_of}
 use Rattle.ch_presence.proofs.SameUsers.{members_of, same_users}
 use Rattle.ch_presence.proofs.SameChanges.{same_changes}
 use Rattle.ch_subs.specs.Subs.{without_one, without_all}
-use Rattle.ch_shard.specs.Sound.{IsSound}
+use Rattle.ch_shard.specs.Sound.{AreSoundRows}
 use Rattle.ch_shard.proofs.Owners.{OwnsSub}
 
 -- Through each change
 
-pub IsSound-leave : (xs : List Subscription) (rows : List Present) (c : List ℕ) (socket : ℕ) → IsSound xs rows → IsSound (without_one xs socket c) (without rows c socket)
+pub IsSound-leave : (xs : List Subscription) (rows : List Present) (c : List ℕ) (socket : ℕ) → AreSoundRows xs rows → AreSoundRows (without_one xs socket c) (without rows c socket)
 IsSound-leave xs rows c socket sound =
     let p : Subscription → Bool = λ s. not ((s.socket == socket) && bytes_eq s.channel c) in
     record {
@@ -33,7 +33,7 @@ IsSound-leave xs rows c socket sound =
       present = ap (λ rs. without rs c socket) sound.present ∙ sym ((same_changes xs).leave c socket);
     }
 
-pub IsSound-lost : (xs : List Subscription) (rows : List Present) (socket : ℕ) → IsSound xs rows → IsSound (without_all xs socket) (row.without_all rows socket)
+pub IsSound-lost : (xs : List Subscription) (rows : List Present) (socket : ℕ) → AreSoundRows xs rows → AreSoundRows (without_all xs socket) (row.without_all rows socket)
 IsSound-lost xs rows socket sound =
     let p : Subscription → Bool = λ s. not (s.socket == socket) in
     record {
@@ -42,7 +42,7 @@ IsSound-lost xs rows socket sound =
       present = ap (λ rs. row.without_all rs socket) sound.present ∙ sym ((same_changes xs).lost socket);
     }
 
-pub IsSound-join : (xs : List Subscription) (rows : List Present) (n : Subscription) → n.owner < 64 → HasMember n → IsSound xs rows → IsSound (xs ++ n ∷ []) (with_newcomer rows (row_of n))
+pub IsSound-join : (xs : List Subscription) (rows : List Present) (n : Subscription) → n.owner < 64 → HasMember n → AreSoundRows xs rows → AreSoundRows (xs ++ n ∷ []) (with_newcomer rows (row_of n))
 IsSound-join xs rows n below fits sound = record {
   owners = All-push OwnsSub xs n sound.owners below;
   members = All-push HasMember xs n sound.members fits;
@@ -68,7 +68,7 @@ no_members c (x ∷ xs) plain all =
     ]) refl
 
 -- who is present on a channel are its users
-pub users_are : (xs : List Subscription) (rows : List Present) (c : List ℕ) → IsSound xs rows → ids_on rows c ≡ users_in c (on_channel xs c)
+pub users_are : (xs : List Subscription) (rows : List Present) (c : List ℕ) → AreSoundRows xs rows → ids_on rows c ≡ users_in c (on_channel xs c)
 users_are xs rows c sound =
     ap (λ rs. ids_on rs c) sound.present
     ∙ ap (λ ms. ascending (map (λ m. m.user_id) ms)) (members_of xs c)
@@ -82,7 +82,7 @@ presence_of true m fits = refl
 presence_of false m fits = absurd fits
 
 -- whether a channel is full for a member, by who is present
-pub crowded_is : (xs : List Subscription) (rows : List Present) (c : List ℕ) (m : Member) → IsSound xs rows → IsMemberOf (is_presence c) (Some m)
+pub crowded_is : (xs : List Subscription) (rows : List Present) (c : List ℕ) (m : Member) → AreSoundRows xs rows → IsMemberOf (is_presence c) (Some m)
     → (not (has_text (ids_on rows c) m.user_id) && nat_le 100 (length (ids_on rows c))) ≡ is_crowded c (on_channel xs c) (Some m)
 crowded_is xs rows c m sound fits =
     ap (λ us. not (has_text us m.user_id) && nat_le 100 (length us)) (users_are xs rows c sound)
@@ -111,13 +111,13 @@ nobody_on rows c socket none =
     nothing (r ∷ rs) is = cc
 
 -- a socket without a user on the channel has no row there
-pub none_leaves : (xs : List Subscription) (rows : List Present) (c : List ℕ) (socket : ℕ) → IsSound xs rows → user_in (on_channel xs c) socket ≡ None → without rows c socket ≡ rows
+pub none_leaves : (xs : List Subscription) (rows : List Present) (c : List ℕ) (socket : ℕ) → AreSoundRows xs rows → user_in (on_channel xs c) socket ≡ None → without rows c socket ≡ rows
 none_leaves xs rows c socket sound none =
-    filter-none (is_of c socket) rows ((elim (is_presence c) as (λ b. is_presence c ≡ b → is_present rows c socket ≡ false) [
+    filter-none (is_row_of c socket) rows ((elim (is_presence c) as (λ b. is_presence c ≡ b → is_present rows c socket ≡ false) [
       | true ↦ (λ is.
           let user : user_of (rows_of xs) c socket ≡ None = (same_users xs c).user socket is sound.members ∙ none in
           ap (λ rs. is_present rs c socket) sound.present
-          ∙ find_none (is_of c socket) (rows_of xs) (no_row (find (is_of c socket) (rows_of xs)) user))
+          ∙ find_none (is_row_of c socket) (rows_of xs) (no_row (find (is_row_of c socket) (rows_of xs)) user))
       | false ↦ (λ plain.
           ap (λ rs. is_present rs c socket) sound.present
           ∙ nobody_on (rows_of xs) c socket (members_of xs c ∙ no_members c xs plain sound.members))

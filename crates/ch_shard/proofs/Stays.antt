@@ -6,7 +6,7 @@ use Rattle.std.specs.Prelude.{option_to_list, false}
 use Rattle.std.specs.List.{list_any}
 use Rattle.ch_history.specs.declared.rows.Subscription.{Subscription}
 use Rattle.ch_history.specs.Entries.{ChanEntry}
-use Rattle.ch_history.specs.Subscriptions.{opened, settles, subs_after, on_channel, is_on}
+use Rattle.ch_history.specs.Subscriptions.{opened_by, settles, subs_after, on_channel, is_on}
 use Rattle.ch_history.proofs.Lists.{filter-none, filter-swap, list_any-filter}
 use Rattle.ch_history.proofs.OpenRows.{own_name}
 use Rattle.ch_history.proofs.Texts.{text_itself}
@@ -15,7 +15,7 @@ use Rattle.ch_subs.specs.Subs.{without_one, without_all}
 use Rattle.ch_shard.specs.Parting.{others}
 
 -- an entry that settles none of these and opens none
-pub stay : (xs : List Subscription) (e : ChanEntry) → list_any (λ s. settles s e) xs ≡ false → opened e ≡ None → subs_after xs e ≡ xs
+pub stay : (xs : List Subscription) (e : ChanEntry) → list_any (λ s. settles s e) xs ≡ false → opened_by e ≡ None → subs_after xs e ≡ xs
 stay xs e none nothing = ap₂ (λ ys o. ys ++ option_to_list o) (filter-none (λ s. settles s e) xs none) nothing ∙ append-nil xs
 
 -- where the socket isn't on the channel, no subscription is its own one to it

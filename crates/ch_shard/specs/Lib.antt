@@ -8,7 +8,7 @@ pub mod Parts
 pub mod Moves
 pub mod Holds
 pub mod Tail
-pub mod Kept
+pub mod ShardState
 pub mod Stands
 pub mod Seats
 pub mod SeatLaws

@@ -8,7 +8,7 @@ use Rattle.ch_history.specs.declared.rows.Subscription.{Subscription}
 use Rattle.ch_history.specs.declared.rows.Delivery.{Delivery}
 use Rattle.ch_history.specs.Subscriptions.{on_channel}
 use Rattle.ch_history.specs.Presence.{user_in}
-use Rattle.ch_history.specs.Frames.{to, is_gone, departure}
+use Rattle.ch_history.specs.Frames.{to, is_gone, member_removed_frames}
 use Rattle.ch_history.specs.Webhooks.{parting}
 
 -- whether the member is the user
@@ -45,7 +45,7 @@ vacated_hook c has_other = if has_other then [] else hook.Vacated c ∷ []
 
 -- the frames of the end of the socket's subscription to c
 abbrev pub leave_frames : List Subscription → List ℕ → ℕ → List Delivery
-leave_frames xs c socket = departure c (on_channel xs c) (others (on_channel xs c) socket) socket
+leave_frames xs c socket = member_removed_frames c (on_channel xs c) (others (on_channel xs c) socket) socket
 
 -- and its webhook events
 abbrev pub leave_hooks : List Subscription → List ℕ → ℕ → List Hook

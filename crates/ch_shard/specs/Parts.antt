@@ -16,7 +16,7 @@ use Rattle.ch_history.specs.Deliveries.{for_owner}
 use Rattle.ch_history.specs.Subscriptions.{on_channel, is_on, channels_in}
 use Rattle.ch_history.specs.Presence.{users_in, user_in}
 use Rattle.ch_history.specs.Cache.{renewed, cache_row}
-use Rattle.ch_history.specs.Frames.{welcome, arrival, is_other, broadcast}
+use Rattle.ch_history.specs.Frames.{welcome, member_added_frames, is_other, broadcast}
 use Rattle.ch_history.specs.Webhooks.{occupied, added, missed}
 use Rattle.ch_history.specs.Held.{due, not_due, vacated_events, held_after, hooks_after}
 use Rattle.ch_history.specs.Answers.{is_crowded, row_in, names_in}
@@ -75,7 +75,7 @@ newcomer caller socket c member = record { channel = c; socket = socket; owner =
 abbrev pub join_frames : Parts → ℕ → Subscription → List Delivery
 join_frames old now n =
     welcome n.channel (on_channel (old.subs ++ n ∷ []) n.channel) (kept_at old now n.channel) n
-    ++ arrival n.channel (on_channel old.subs n.channel) n.member
+    ++ member_added_frames n.channel (on_channel old.subs n.channel) n.member
 
 -- and its webhook events
 abbrev pub join_hooks : Parts → ℕ → Subscription → List Hook

@@ -5,7 +5,7 @@ use Rattle.ch_presence.specs.declared.present.Present.{Present}
 use Rattle.ch_presence.specs.Subscribed.{HasMember, rows_of}
 
 -- each subscription is a caller's, and has a member exactly on a presence channel; who is present are these members
-pub record IsSound (xs : List Subscription) (rows : List Present) : Type 0 where
+pub record AreSoundRows (xs : List Subscription) (rows : List Present) : Type 0 where
   pub owners : All (λ s. s.owner < 64) xs
   pub members : All HasMember xs
   pub present : rows ≡ rows_of xs

@@ -1,5 +1,5 @@
 ghost use Rattle.std.specs.Prelude.{◌≡◌};
-ghost use Rattle.ch_shard.specs.Tail.{letter_of};
+ghost use Rattle.ch_history.specs.Letters.{letter_of};
 
 use ch_base::ChanCall;
 

@@ -27,13 +27,13 @@ pub struct Channels {
 
 impl Model for Channels {
     ghost use Rattle.ch_shard.specs.Parts.{Parts};
-    ghost use Rattle.ch_shard.specs.Sound.{IsSound};
+    ghost use Rattle.ch_shard.specs.Sound.{AreSoundRows};
 
     ghost Value = { Parts };
 
     ghost view = { λ s. record { subs = s.subs; cache = s.cache; outbox = s.outbox; log = s.log.hooks; held = s.log.held; spare = s.log.spare } };
 
-    ghost invariant = { λ s. IsSound s.subs s.presence.rows };
+    ghost invariant = { λ s. AreSoundRows s.subs s.presence.rows };
 }
 
 impl Channels {

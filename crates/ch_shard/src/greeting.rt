@@ -9,11 +9,11 @@ ghost use Rattle.ch_history.specs.Webhooks.{missed};
 ghost use Rattle.ch_presence.specs.Members.{rows_on};
 ghost use Rattle.ch_shard.specs.Greeting.{first_frame, latest_news, new_user, arrived, arrived_hook, occupied_hook};
 
-use crate::kinds::is_cache;
 use crate::news::event_frame;
 use crate::telling::tell;
 use ch_base::{Frame, Hook, Member, MemberList, Memory, Shared, Text};
 use ch_history::{Cached, Delivery};
+use ch_names::is_cache;
 use ch_presence::{Presence, Present};
 use ch_print::Press;
 use ch_subs::Subs;
@@ -63,7 +63,7 @@ pub fn tell_latest(
     requires { IsTrue (is_good_name channel.now) }
     ensures { OnOk result (frames.new.items ≡ frames.old.items ++ latest_news channel.now (option_copied latest.entry) owner socket) }
 {
-    if is_cache(channel) {
+    if is_cache(channel.as_str()) {
         let frame = latest_frame(press.alloc(), latest, channel)?;
         greet(press, owner, socket, frame, frames)?;
     }
@@ -187,7 +187,7 @@ pub fn log_missed(
     requires { IsTrue (is_good_name channel.now) }
     ensures { OnOk result (hooks.new.items ≡ hooks.old.items ++ missed channel.now (option_copied latest.entry)) }
 {
-    if is_cache(channel) && latest.is_none() {
+    if is_cache(channel.as_str()) && latest.is_none() {
         let channel = channel.copy(alloc)?;
         hooks.push(Hook::Miss { channel })?;
     }

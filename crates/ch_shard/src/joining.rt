@@ -2,7 +2,7 @@ ghost use Rattle.std.specs.Prelude.{◌≡◌, ◌<◌, ◌&&◌, not, length, n
 ghost use Rattle.std.specs.Option.{option_copied};
 ghost use Rattle.ch_history.specs.Answers.{is_crowded};
 ghost use Rattle.ch_history.specs.ChannelName.{is_good_name, is_presence};
-ghost use Rattle.ch_history.specs.Limits.{max_users};
+ghost use Rattle.ch_history.specs.declared.limits.TheConstants.{MAX_USERS};
 ghost use Rattle.ch_history.specs.Texts.{has_text};
 ghost use Rattle.ch_history.specs.Subscriptions.{on_channel};
 ghost use Rattle.ch_history.specs.WellFormed.{IsMemberOf};
@@ -11,17 +11,14 @@ ghost use Rattle.ch_shard.specs.Greeting.{newcomer_row, IsAbsent};
 ghost use Rattle.ch_shard.specs.Parts.{IsUnchanged, JoinGives, newcomer, join_frames, join_hooks};
 
 use crate::channels::Channels;
+use crate::effects::{Effects, hand_over, make_room};
 use crate::greeting::{
     first_frame, greet, log_arrival, log_missed, log_occupied, new_user, tell_arrival, tell_latest,
 };
-use crate::made::{Made, hand_over, make_room};
 use ch_base::{ChanAnswer, Hook, Member, Memory, Text};
-use ch_history::Delivery;
+use ch_history::{Delivery, MAX_USERS};
 use ch_presence::{Presence, Present};
 use std::alloc::Global;
-
-/// So many users fill a presence channel (Pusher Channels, "Presence channels", "Limits").
-const MAX_USERS: u64 = 100;
 
 impl Channels {
     pub(crate) fn join(
@@ -46,7 +43,7 @@ impl Channels {
         let row = newcomer_row(self.alloc, channel, socket, member)?;
         let frames = self.greeting_frames(caller, socket, channel, member, row.as_ref(), now)?;
         let hooks = self.greeting_hooks(channel, member, now)?;
-        let made = Made { frames, hooks };
+        let made = Effects { frames, hooks };
         make_room(&mut self.outbox, &mut self.log, &made, now)?;
         self.subs.join(socket, channel, caller, member)?;
         match enter(&mut self.presence, row.as_ref()) {
@@ -131,7 +128,7 @@ impl Channels {
 
 /// Whether the channel is full and the user isn't on it.
 fn is_full_for(presence: &Presence, channel: &Text, user_id: &Text) -> bool
-    ensures { result ≡ (not (has_text (ids_on presence.now.rows channel.now) user_id.now) && nat_le max_users (length (ids_on presence.now.rows channel.now))) }
+    ensures { result ≡ (not (has_text (ids_on presence.now.rows channel.now) user_id.now) && nat_le MAX_USERS (length (ids_on presence.now.rows channel.now))) }
 {
     !presence.has(channel, user_id) && presence.count(channel) >= MAX_USERS
 }

@@ -1,10 +1,10 @@
 ghost use Rattle.std.specs.Prelude.{◌≡◌, MatchResult};
 ghost use Rattle.ch_presence.specs.Members.{without};
 ghost use Rattle.ch_shard.specs.Parts.{IsUnchanged, LeaveGives, LostGives};
-ghost use Rattle.ch_shard.specs.Sound.{IsSound};
+ghost use Rattle.ch_shard.specs.Sound.{AreSoundRows};
 
 use crate::channels::Channels;
-use crate::made::{Made, hand_over, make_room};
+use crate::effects::{Effects, hand_over, make_room};
 use crate::parting::{part, partings, user_of};
 use ch_base::{ChanAnswer, Memory, Text};
 use ch_presence::Presence;
@@ -22,7 +22,7 @@ impl Channels {
         if !self.subs.on(socket, channel) {
             return Ok(ChanAnswer::NotOn);
         }
-        let mut made = Made::new(self.alloc);
+        let mut made = Effects::new(self.alloc);
         part(&mut self.press, &self.subs, channel, socket, &mut made)?;
         make_room(&mut self.outbox, &mut self.log, &made, now)?;
         depart(&mut self.presence, &self.subs, channel, socket);
@@ -45,7 +45,7 @@ impl Channels {
 
 /// Ends the presence of the socket on the channel. It takes no memory.
 fn depart(presence: &mut Presence, subs: &Subs, channel: &Text, socket: u64)
-    requires { IsSound subs.now presence.old.rows }
+    requires { AreSoundRows subs.now presence.old.rows }
     ensures { presence.new.rows ≡ without presence.old.rows channel.now socket }
 {
     match user_of(subs, channel, socket) {

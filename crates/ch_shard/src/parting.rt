@@ -6,7 +6,7 @@ ghost use Rattle.ch_history.specs.Subscriptions.{on_channel, channels_in};
 ghost use Rattle.ch_presence.specs.Subscribed.{HasMember};
 ghost use Rattle.ch_shard.specs.Parting.{is_user, others, gone_user, farewell, farewell_hook, vacated_hook, leave_frames, leave_hooks};
 
-use crate::made::Made;
+use crate::effects::Effects;
 use crate::telling::tell;
 use ch_base::{Frame, Hook, Member, Memory, Text};
 use ch_history::{Delivery, Subscription};
@@ -15,12 +15,12 @@ use ch_subs::Subs;
 use std::alloc::Global;
 
 /// What the loss of the socket makes: the ends of its subscriptions, ascending by channel.
-pub fn partings(press: &mut Press, subs: &Subs, socket: u64) -> Result<Made, Memory>
+pub fn partings(press: &mut Press, subs: &Subs, socket: u64) -> Result<Effects, Memory>
     requires { All HasMember subs.now }
     ensures frames { IfOk result (λ made. made.frames.items ≡ flat_map (λ c. leave_frames subs.now c socket) (channels_in subs.now socket)) }
     ensures hooks { IfOk result (λ made. made.hooks.items ≡ flat_map (λ c. leave_hooks subs.now c socket) (channels_in subs.now socket)) }
 {
-    let mut made = Made::new(press.alloc());
+    let mut made = Effects::new(press.alloc());
     for i in 0..subs.channels(socket) {
         let channel = subs.channel(socket, i);
         part(press, subs, channel, socket, &mut made)?;
@@ -35,7 +35,7 @@ pub fn part(
     subs: &Subs,
     channel: &Text,
     socket: u64,
-    made: &mut Made,
+    made: &mut Effects,
 ) -> Result<(), Memory>
     requires { All HasMember subs.now }
     ensures frames { OnOk result (made.new.frames.items ≡ made.old.frames.items ++ leave_frames subs.now channel.now socket) }

@@ -5,12 +5,12 @@ ghost use Rattle.ch_history.specs.Limits.{IsMoment};
 ghost use Rattle.ch_shard.specs.Parts.{IsUnchanged, PublishGives, after_event, event_at};
 
 use crate::channels::Channels;
-use crate::kinds::is_cache;
-use crate::made::{Made, hand_over, make_room};
+use crate::effects::{Effects, hand_over, make_room};
 use crate::news::event_frame;
 use crate::telling::broadcast;
 use ch_base::{ChanAnswer, Memory, Text};
 use ch_cache::Cache;
+use ch_names::is_cache;
 
 impl Channels {
     pub(crate) fn publish(
@@ -31,7 +31,7 @@ impl Channels {
         let printed = self.press.print(frame)?;
         let frames = broadcast(self.alloc, &self.subs, channel, &printed, except)?;
         let hooks = Vec::new(self.alloc);
-        let made = Made { frames, hooks };
+        let made = Effects { frames, hooks };
         make_room(&mut self.outbox, &mut self.log, &made, now)?;
         keep(&mut self.cache, channel, event, body, now)?;
         hand_over(&mut self.outbox, &mut self.log, made, now);
@@ -73,7 +73,7 @@ fn put_latest(
         → latest_in cache.new d at ≡ after_event (latest_in cache.old) channel.now (event_at now event.now body.now) d at) }
     ensures err { OnErr result (cache.new ≡ cache.old) }
 {
-    if !is_cache(channel) {
+    if !is_cache(channel.as_str()) {
         return Ok(());
     }
     cache.put(channel, event, body, now)?;

@@ -4,7 +4,7 @@ ghost use Rattle.ch_base.specs.declared.webhook.Hook.TheVariants.{Client};
 ghost use Rattle.ch_shard.specs.Parts.{IsUnchanged, SayGives};
 
 use crate::channels::Channels;
-use crate::made::{Made, hand_over, make_room};
+use crate::effects::{Effects, hand_over, make_room};
 use crate::news::{copied_id, event_frame};
 use crate::parting::user_of;
 use crate::telling::broadcast;
@@ -32,7 +32,7 @@ impl Channels {
         hooks.push(hook)?;
         let printed = self.press.print(frame)?;
         let frames = broadcast(self.alloc, &self.subs, channel, &printed, Some(socket))?;
-        let made = Made { frames, hooks };
+        let made = Effects { frames, hooks };
         make_room(&mut self.outbox, &mut self.log, &made, now)?;
         hand_over(&mut self.outbox, &mut self.log, made, now);
         Ok(ChanAnswer::Said)

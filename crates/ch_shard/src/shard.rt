@@ -22,9 +22,9 @@ pub struct ChanShard {
 
 impl Model for ChanShard {
     ghost use Rattle.ch_history.specs.Limits.{IsMoment};
-    ghost use Rattle.ch_shard.specs.Kept.{Kept};
+    ghost use Rattle.ch_shard.specs.ShardState.{ShardState};
 
-    ghost Value = { Kept };
+    ghost Value = { ShardState };
 
     ghost view = { λ s. record { parts = s.channels; tail = s.tail; clock = s.clock } };
 
@@ -79,7 +79,7 @@ impl ChanShard {
         Ok(answer)
     }
 
-    /// How many of the last entries are shown: all, or 1,024 where there are more.
+    /// How many of the last entries are shown: all, or `LONGEST_TAIL` where there are more.
     pub fn tail_len(&self) -> u64
         ensures len { result ≡ length self.now.tail }
         ensures history { (h : ChanHistory) → Stands self.now h → result ≡ length (tail_of h) }

@@ -10,7 +10,9 @@ use Rattle.ch_history.specs.ChannelName.{is_good_name}
 use Rattle.ch_history.specs.Limits.{is_event_name}
 use Rattle.ch_transcript.specs.declared.commands.Command.{Command}
 use Rattle.ch_transcript.specs.declared.commands.Command.TheVariants.{Say, Join, SignIn, Publish, Hooks}
-use Rattle.ch_transcript.specs.Commands.{first_part, more_parts, number_in, latest_moment, command_of, command_in, command_by, join_in, join_of, say_in, sign_in_in, publish_on, publish_of}
+use Rattle.ch_transcript.specs.Commands.{first_part, more_parts, number_in, command_of, command_in, command_by, join_in, join_of, say_in, sign_in_in, publish_on, publish_of}
+use Rattle.ch_base.specs.declared.limits.TheConstants.{LATEST_MOMENT}
+use Rattle.ch_soak.specs.declared.limits.TheConstants.{MOST_LINES}
 use Rattle.ch_soak.specs.declared.draws.Action.{Action}
 use Rattle.ch_soak.specs.declared.draws.Action.TheVariants as action
 use Rattle.ch_soak.specs.declared.draws.Draws.{Draws}
@@ -64,7 +66,7 @@ pub by_word : (word rest : List ℕ) → Word word → command_of (word ++ 32 �
 by_word word rest none = ap (λ z. command_in z (more_parts (word ++ 32 ∷ rest))) (first_of word rest none) ∙ ap (command_in word) (more_of word rest none)
 
 -- a number, and what follows it
-numbered : (F : Option ℕ → Option (List ℕ) → Option Command) (n : ℕ) (more : List ℕ) → n ≤ latest_moment → Word (decimal n)
+numbered : (F : Option ℕ → Option (List ℕ) → Option Command) (n : ℕ) (more : List ℕ) → n ≤ LATEST_MOMENT → Word (decimal n)
     → F (number_in (first_part (decimal n ++ 32 ∷ more))) (more_parts (decimal n ++ 32 ∷ more)) ≡ F (Some n) (Some more)
 numbered F n more small none =
     ap (λ z. F (number_in z) (more_parts (decimal n ++ 32 ∷ more))) (first_of (decimal n) more none)
@@ -189,7 +191,7 @@ sign_in_said d user least most =
           (plain_of 20 (32 ∷ b) refl refl) (number_plain d.user (omega (arith, user))) (plain_of 40 e refl refl);
     }
 
-say_said : (i : ℕ) (d : Draws) → i < 20000 → 1 ≤ d.socket → d.socket ≤ 8 → Said (say_command i d)
+say_said : (i : ℕ) (d : Draws) → i < MOST_LINES → 1 ≤ d.socket → d.socket ≤ 8 → Said (say_command i d)
 say_said i d few least most =
     let s = decimal d.socket in
     let b : List ℕ = codes "{\"event\":\"client-m\",\"channel\":\"" in
@@ -215,7 +217,7 @@ say_said i d few least most =
           (plain_of 1 e refl refl);
     }
 
-publish_said : (i : ℕ) (d : Draws) → i < 20000 → Said (publish_command i d)
+publish_said : (i : ℕ) (d : Draws) → i < MOST_LINES → Said (publish_command i d)
 publish_said i d few =
     let c = channel_of d.channel in
     let n = decimal i in
@@ -254,7 +256,7 @@ hooks_said = record {
 }
 
 -- what a drawn line says after its moment
-pub drawn_said : (i : ℕ) (d : Draws) (a : Action) → i < 20000 → d.user < 4 → 1 ≤ d.socket → d.socket ≤ 8 → Said (drawn_command i d a)
+pub drawn_said : (i : ℕ) (d : Draws) (a : Action) → i < MOST_LINES → d.user < 4 → 1 ≤ d.socket → d.socket ≤ 8 → Said (drawn_command i d a)
 drawn_said i d action.Join few user least most = join_said d user least most
 drawn_said i d action.Unsubscribe few user least most = unsubscribe_said d least most
 drawn_said i d action.Publish few user least most = publish_said i d few

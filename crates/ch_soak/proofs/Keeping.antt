@@ -16,7 +16,8 @@ use Rattle.ch_transcript.specs.Commands.{line_of}
 use Rattle.ch_transcript.specs.Progress.{Socket, Progress, Played, socket_of, has_socket, is_live, quietly}
 use Rattle.ch_transcript.specs.Rounds.{Telling, tells_as, tells, tells_all, all_waiting, taken, any_ended, loses_ended, Rounds, after_round, rounds, rounded}
 use Rattle.ch_transcript.specs.Turns.{Turn, hears}
-use Rattle.ch_transcript.specs.Obeying.{takes_turn, of_socket, opens, most_opened, greeting, is_accepted, publishes, may_except, Sense, IsJudged, Means, obeyed}
+use Rattle.ch_transcript.specs.Obeying.{takes_turn, of_socket, opens, opening_lines, is_accepted, publishes, may_except, Sense, IsJudged, Means, obeyed}
+use Rattle.ch_transcript.specs.declared.limits.TheConstants.{MOST_OPENED}
 use Rattle.ch_transcript.specs.Outcomes.{at_moment, played_as, MeansAs, Plays}
 use Rattle.ch_soak.proofs.Bytes.{both_true, at_least}
 
@@ -90,14 +91,14 @@ next_socket at refusal = record { is_open = is_accepted refusal; quiet = quiet_f
 
 abbrev opened : Progress → ℕ → Option ℕ → Played
 opened p at refusal = record {
-  text = greeting (length p.sockets + 1) refusal;
+  text = opening_lines (length p.sockets + 1) refusal;
   next = record { at = p.at; sockets = p.sockets ++ next_socket at refusal ∷ []; shards = p.shards; webhooks = p.webhooks };
 }
 
-pub opens_keeps : (p : Progress) (at : ℕ) (refusal : Option ℕ) → length p.sockets < most_opened → Keeps (length p.sockets + 1) p.at (opens p at refusal)
+pub opens_keeps : (p : Progress) (at : ℕ) (refusal : Option ℕ) → length p.sockets < MOST_OPENED → Keeps (length p.sockets + 1) p.at (opens p at refusal)
 opens_keeps p at refusal few =
     let P : Bool → Type 0 = λ t. Keeps (length p.sockets + 1) p.at (cond t (Some (opened p at refusal)) None) in
-    subst P (sym (lt-ltb (length p.sockets) most_opened few)) (refl, length-append p.sockets (next_socket at refusal ∷ []))
+    subst P (sym (lt-ltb (length p.sockets) MOST_OPENED few)) (refl, length-append p.sockets (next_socket at refusal ∷ []))
 
 judged_string : (body : List ℕ) (b : Bool) → IsJudged body b → IsJsonString body → b ≡ true
 judged_string body true h quoted = refl

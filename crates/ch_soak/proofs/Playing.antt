@@ -10,12 +10,14 @@ use Rattle.ch_protocol.specs.Targets.{target_refusal}
 use Rattle.ch_transcript.specs.declared.commands.Command.TheVariants.{Open}
 use Rattle.ch_transcript.specs.declared.commands.Line.TheVariants.{Timed}
 use Rattle.ch_transcript.specs.Commands.{line_of, open_in}
-use Rattle.ch_transcript.specs.Lines.{longest_line, lines_of}
+use Rattle.ch_transcript.specs.Lines.{lines_of}
+use Rattle.ch_transcript.specs.declared.limits.TheConstants.{LONGEST_LINE}
 use Rattle.ch_transcript.specs.Outcomes.{at_moment, Plays, Outcome, ends, Follows, OutcomeFrom}
 use Rattle.ch_transcript.specs.Printing.{line_end, long_line}
 use Rattle.ch_transcript.specs.Progress.{Progress, Played, beginning}
 use Rattle.ch_transcript.proofs.LineLemmas.{lines_of-line}
-use Rattle.ch_soak.specs.Generator.{draws_from, command_of as drawn_command, opened, line_at, state_after, lines_from}
+use Rattle.ch_soak.specs.declared.limits.TheConstants.{MOST_LINES}
+use Rattle.ch_soak.specs.Generator.{draws_from, command_of as drawn_command, connection_count, line_at, state_after, lines_from}
 use Rattle.ch_soak.specs.Laws.{EachIsPlayable}
 use Rattle.ch_soak.proofs.Bytes.{is_plain, Plain, Plain-append, all_append, plain_no_end, plain_utf8}
 use Rattle.ch_soak.proofs.Drawing.{Said, drawn_said, by_word, plain_of, pick, number_plain}
@@ -61,10 +63,10 @@ step_open i p y few st plays =
 
 -- ---- drawn lines
 
-say_of : (i x : ℕ) → i < 20000 → Said (drawn_command i (draws_from x) (draws_from x).action)
+say_of : (i x : ℕ) → i < MOST_LINES → Said (drawn_command i (draws_from x) (draws_from x).action)
 say_of i x few = drawn_said i (draws_from x) (draws_from x).action few (omega arith) (omega arith) (omega arith)
 
-step_drawn : (i x : ℕ) (p : Progress) (y : Option Played) → 8 ≤ i → i < 20000 → Stands i p
+step_drawn : (i x : ℕ) (p : Progress) (y : Option Played) → 8 ≤ i → i < MOST_LINES → Stands i p
     → Plays built_in p (decimal i ++ codes " " ++ drawn_command i (draws_from x) (draws_from x).action) y → Stepped i y
 step_drawn i x p y least few st plays =
     let text = drawn_command i (draws_from x) (draws_from x).action in
@@ -82,9 +84,9 @@ step_drawn i x p y least few st plays =
 not_below : (a b : ℕ) → nat_lt a b ≡ false → b ≤ a
 not_below a b h = grind (arith, nat_tests)
 
-step : (i x : ℕ) (p : Progress) (y : Option Played) → i < 20000 → Stands i p → Plays built_in p (line_at i x) y → Stepped i y
+step : (i x : ℕ) (p : Progress) (y : Option Played) → i < MOST_LINES → Stands i p → Plays built_in p (line_at i x) y → Stepped i y
 step i x p y few st plays =
-    (elim (nat_lt i opened) as (λ (b : Bool). nat_lt i opened ≡ b
+    (elim (nat_lt i connection_count) as (λ (b : Bool). nat_lt i connection_count ≡ b
     → Plays built_in p (cond b open_line (decimal i ++ codes " " ++ drawn_command i (draws_from x) (draws_from x).action)) y → Stepped i y) [
       | true ↦ λ is h. step_open i p y (ltb-true i 8 is) st h
       | false ↦ λ is h. step_drawn i x p y (not_below i 8 is) few st h
@@ -93,28 +95,28 @@ step i x p y few st plays =
 wider : (j k : ℕ) (xs : List ℕ) → j ≤ k → Plain j xs → Plain k xs
 wider j k xs le h = (h.0, omega (arith, h.1, le))
 
-line_plain : (i x : ℕ) → i < 20000 → Plain 500 (line_at i x)
+line_plain : (i x : ℕ) → i < MOST_LINES → Plain 500 (line_at i x)
 line_plain i x few =
     let text = drawn_command i (draws_from x) (draws_from x).action in
     let said = say_of i x few in
-    pick (Plain 500) (nat_lt i opened) open_line (decimal i ++ codes " " ++ text) (plain_of 500 open_line refl refl)
+    pick (Plain 500) (nat_lt i connection_count) open_line (decimal i ++ codes " " ++ text) (plain_of 500 open_line refl refl)
     (wider (20 + 1 + said.size) 500 (decimal i ++ codes " " ++ text) (omega (arith, said.small))
     (Plain-append (20 + 1) said.size (decimal i ++ codes " ") text (Plain-append 20 1 (decimal i) (codes " ") (number_plain i (omega (arith, few))) (plain_of 1 (codes " ") refl refl)) said.plain))
 
 -- ---- all lines
 
-good : (count i x n : ℕ) (p : Progress) (o : Outcome) → i + count ≤ 20000 → Stands i p → OutcomeFrom built_in n p (lines_of (lines_from count i x)) o → o.status ≡ 0
+good : (count i x n : ℕ) (p : Progress) (o : Outcome) → i + count ≤ MOST_LINES → Stands i p → OutcomeFrom built_in n p (lines_of (lines_from count i x)) o → o.status ≡ 0
 good zero i x n p o few st judged = ap (λ (z : Outcome). z.status) judged
 good (suc count) i x n p o few st judged =
     let line = line_at i x in
     let rest = lines_from count (i + 1) (state_after i x) in
-    let small : i < 20000 = omega (arith, few) in
+    let small : i < MOST_LINES = omega (arith, few) in
     let plain = line_plain i x small in
     let split : lines_of (lines_from (suc count) i x) ≡ line ∷ lines_of rest = ap lines_of (append_assoc line line_end rest) ∙ lines_of-line line rest (plain_no_end line plain.0) in
     let first : OutcomeFrom built_in n p (line ∷ lines_of rest) o = subst (λ z. OutcomeFrom built_in n p z o) split judged in
     let More : Progress → Outcome → Type 0 = λ q later. OutcomeFrom built_in (n + 1) q (lines_of rest) later in
     let Played_ : Type 0 = (y : Option Played) × Plays built_in p line y × Follows n More y o in
-    let h : Played_ = subst (λ t. MatchBool t (o ≡ ends 8 (long_line n)) Played_) (le-ltb longest_line (length line) (omega (arith, plain.1))) first in
+    let h : Played_ = subst (λ t. MatchBool t (o ≡ ends 8 (long_line n)) Played_) (le-ltb LONGEST_LINE (length line) (omega (arith, plain.1))) first in
     (elim h.0 as (λ (y : Option Played). Stepped i y → Follows n More y o → o.status ≡ 0) [
       | None ↦ λ stepped follows. absurd stepped
       | Some z ↦ λ stepped follows. ap (λ (q : Outcome). q.status) follows.2

@@ -10,7 +10,8 @@ use Rattle.std.proofs.lemmas.Fmt.{decimal_is_IsNumeral}
 use Rattle.std.proofs.lemmas.Slice.Eq.{bytes_eq-Decides}
 use Rattle.ch_transcript.specs.declared.commands.Command.{Command}
 use Rattle.ch_transcript.specs.declared.commands.Line.TheVariants.{Skipped, Timed, Bad}
-use Rattle.ch_transcript.specs.Commands.{is_blank, first_part, more_parts, number_in, latest_moment, command_of, command_after, timed, is_skipped, line_in, line_of}
+use Rattle.ch_transcript.specs.Commands.{is_blank, first_part, more_parts, number_in, command_of, command_after, timed, is_skipped, line_in, line_of}
+use Rattle.ch_base.specs.declared.limits.TheConstants.{LATEST_MOMENT}
 use Rattle.ch_soak.proofs.Bytes.{is_digit, digit_least, and_both, both_true, or_left, or_right, differs, at_least, digits_are, digits_no_blank}
 
 -- no blank stands in the word
@@ -50,11 +51,11 @@ more_whole word none =
 
 -- ---- numbers
 
-pub number_of : (n : ℕ) → n ≤ latest_moment → number_in (decimal n) ≡ Some n
+pub number_of : (n : ℕ) → n ≤ LATEST_MOMENT → number_in (decimal n) ≡ Some n
 number_of n small =
-    let F : ℕ → Option ℕ = λ v. cond (nat_le v latest_moment && bytes_eq (decimal v) (decimal n)) (Some v) None in
+    let F : ℕ → Option ℕ = λ v. cond (nat_le v LATEST_MOMENT && bytes_eq (decimal v) (decimal n)) (Some v) None in
     ap F (decimal_is_IsNumeral n (omega (arith, small))).1
-    ∙ ap (λ t. cond t (Some n) None) (both_true (nat_le n latest_moment) (bytes_eq (decimal n) (decimal n)) (at_least n latest_moment small) ((bytes_eq-Decides (decimal n) (decimal n)).1 refl))
+    ∙ ap (λ t. cond t (Some n) None) (both_true (nat_le n LATEST_MOMENT) (bytes_eq (decimal n) (decimal n)) (at_least n LATEST_MOMENT small) ((bytes_eq-Decides (decimal n) (decimal n)).1 refl))
 
 -- ---- lines
 
@@ -63,7 +64,7 @@ not_skipped [] rest a = refl
 not_skipped (x ∷ ds) rest a = differs x 35 (omega (arith, digit_least x (and_both (is_digit x) (list_all is_digit ds) a).0))
 
 -- a moment, a blank and a command
-pub line_is : (i : ℕ) (text : List ℕ) (command : Command) → i ≤ latest_moment → is_utf8 (decimal i ++ 32 ∷ text) ≡ true → command_of text ≡ Some command
+pub line_is : (i : ℕ) (text : List ℕ) (command : Command) → i ≤ LATEST_MOMENT → is_utf8 (decimal i ++ 32 ∷ text) ≡ true → command_of text ≡ Some command
     → line_of (decimal i ++ 32 ∷ text) ≡ Timed i command
 line_is i text command small utf8 is =
     let line = decimal i ++ 32 ∷ text in

@@ -2,6 +2,7 @@
 use Rattle.std.specs.Prelude.{◌+◌, ◌*◌, ◌/◌, ◌%◌, ◌^◌, ◌==◌, ℕ, zero, suc, Bool, true, false, nat_le, nat_lt, List, [], ◌++◌, codes, if◌then◌else◌}
 use Rattle.std.specs.Fmt.{decimal}
 use Rattle.ch_transcript.specs.Printing.{line_end}
+use Rattle.ch_soak.specs.declared.draws.TheConstants.{FACTOR, INCREMENT}
 use Rattle.ch_soak.specs.declared.draws.Action.{Action}
 use Rattle.ch_soak.specs.declared.draws.Action.TheVariants.{Join, Unsubscribe, Publish, Say, SignIn, Hooks}
 use Rattle.ch_soak.specs.declared.draws.Draws.{Draws}
@@ -11,7 +12,7 @@ use Rattle.ch_soak.specs.declared.words.Soak.{Soak}
 
 -- the state of the generator after one draw: a linear congruence modulo 2^64
 abbrev pub stirred : ℕ → ℕ
-stirred x = (x * 6364136223846793005 + 1442695040888963407) % 2 ^ 64
+stirred x = (x * FACTOR + INCREMENT) % 2 ^ 64
 
 -- the number below m that is drawn from the state after the draw: by its high bits
 abbrev pub drawn : ℕ → ℕ → ℕ
@@ -86,18 +87,18 @@ names_user d SignIn = true
 names_user d _ = false
 
 -- how many connections are opened
-abbrev pub opened : ℕ
-opened = 8
+abbrev pub connection_count : ℕ
+connection_count = 8
 
 -- line i, drawn from a state; the first line is line 0, and each drawn line is at the moment of its number
 abbrev pub line_at : ℕ → ℕ → List ℕ
 line_at i x =
-    if nat_lt i opened then codes "0 open /app/k?protocol=7" else decimal i ++ codes " " ++ command_of i (draws_from x) (draws_from x).action
+    if nat_lt i connection_count then codes "0 open /app/k?protocol=7" else decimal i ++ codes " " ++ command_of i (draws_from x) (draws_from x).action
 
 -- the state after line i
 abbrev pub state_after : ℕ → ℕ → ℕ
 state_after i x =
-    if nat_lt i opened then x
+    if nat_lt i connection_count then x
     else if names_user (draws_from x) (draws_from x).action then stirred (stirred (stirred (stirred x)))
     else stirred (stirred (stirred x))
 

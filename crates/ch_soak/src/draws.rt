@@ -3,10 +3,10 @@ ghost use Rattle.std.specs.Prelude.{◌≡◌, ◌<◌};
 ghost use Rattle.ch_soak.specs.Generator.{stirred, drawn, action_of, draws_from};
 
 /// The factor of the linear congruence.
-const FACTOR: u64 = 6_364_136_223_846_793_005;
+pub(crate) const FACTOR: u64 = 6_364_136_223_846_793_005;
 
 /// Its increment.
-const INCREMENT: u64 = 1_442_695_040_888_963_407;
+pub(crate) const INCREMENT: u64 = 1_442_695_040_888_963_407;
 
 /// What a drawn line does.
 #[derive(Clone, Copy, Debug, PartialEq, Eq)]

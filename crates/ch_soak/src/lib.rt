@@ -8,6 +8,7 @@
 mod draws;
 mod generator;
 mod laws;
+mod limits;
 mod printing;
 mod soaking;
 mod source;
@@ -16,5 +17,6 @@ mod words;
 
 pub use draws::{Action, Draws};
 pub use laws::each_is_playable;
+pub use limits::{FEWEST_LINES, MOST_LINES};
 pub use soaking::soak;
 pub use words::{Soak, soak_of};

@@ -6,6 +6,7 @@ ghost use Rattle.ch_io.specs.Counts.{Rose};
 ghost use Rattle.ch_replay.specs.Playable.{IsPlayable};
 ghost use Rattle.ch_transcript.specs.Outcomes.{HasOutcome, ends};
 ghost use Rattle.ch_transcript.specs.Replayed.{WritesLast};
+ghost use Rattle.ch_soak.specs.declared.limits.TheConstants.{MOST_LINES};
 ghost use Rattle.ch_soak.specs.Drawing.{left_of};
 ghost use Rattle.ch_soak.specs.SoakText.{usage_line, IsSummary, Writes, Breaks};
 ghost use Rattle.ch_soak.specs.SoakWords.{AsksForNone};
@@ -41,7 +42,7 @@ const MEMORY: u8 = 7;
 /// | Status | Comes |
 /// |---|---|
 /// | 0 | the line was written |
-/// | 2 | the words aren't `soak` with a seed of 64 bits and a number of lines from 8 to 20,000; the usage line is written |
+/// | 2 | the words aren't `soak` with a seed of 64 bits and a number of lines from `FEWEST_LINES` to `MOST_LINES`; the usage line is written |
 /// | 6 | a write to the sink failed, and a front of the line was written |
 /// | 7 | want of memory; nothing was written |
 pub fn soak<K: Sink>(alloc: Global, words: &[Text], sink: &mut K) -> u8
@@ -81,7 +82,7 @@ fn write_usage<K: Sink>(sink: &mut K)
 /// The line that sums up the output of the soak's transcript.
 #[tactic(auto, using(crate::proofs::Playing::playable))]
 fn summed(alloc: Global, soak: &Soak) -> Result<String, Memory>
-    requires { soak.now.lines ≤ 20000 }
+    requires { soak.now.lines ≤ MOST_LINES }
     ensures { IfOk result (λ line. IsSummary soak.now (string_bytes line)) }
 {
     let mut source = Drawn::new(alloc, soak);

@@ -2,16 +2,11 @@
 ghost use Rattle.std.specs.Prelude.{IfOk};
 ghost use Rattle.ch_soak.specs.SoakWords.{IsReading, IsSoak};
 
+use crate::limits::{FEWEST_LINES, MOST_LINES};
 use ch_base::{Memory, Text};
 use std::alloc::Global;
 
-/// The fewest lines of a soak: each opens a connection.
-const FEWEST_LINES: u64 = 8;
-
-/// The most lines of a soak.
-const MOST_LINES: u64 = 20_000;
-
-/// A soak: the transcript that this seed makes, of 8 to 20,000 lines.
+/// A soak: the transcript that this seed makes, of `FEWEST_LINES` to `MOST_LINES` lines.
 #[derive(Clone, Copy, Debug, PartialEq, Eq)]
 pub struct Soak {
     pub seed: u64,

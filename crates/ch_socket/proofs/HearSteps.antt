@@ -24,12 +24,13 @@ use Rattle.ch_rate.specs.Quiet.{Quiet, due_of, quiet_after}
 use Rattle.ch_rate.specs.declared.activity.Due.{Due}
 use Rattle.ch_session.specs.Judging.{user_data_of}
 use Rattle.ch_protocol.specs.Settling.{SettledAsk}
-use Rattle.ch_session.specs.Kept.{Kept, IsOver, IsSession}
+use Rattle.ch_session.specs.Kept.{Kept, HasShardsOf, IsSession}
 use Rattle.ch_socket.specs.Responses.{TellsOf, reply_lines, ending_lines}
 use Rattle.ch_socket.specs.Sockets.{IsOpen, IsReady, TakesTurn}
 use Rattle.ch_socket.specs.Turns.{HearsAs, TakesPart}
 use Rattle.ch_socket.proofs.AskTurns.{does_as, ends_as, frame_lines, message_answered, outcome_turn, was_heard, with_asks}
-use Rattle.ch_transcript.specs.Printing.{start_second, frame_line}
+use Rattle.ch_transcript.specs.Printing.{frame_line}
+use Rattle.ch_transcript.specs.declared.start.TheConstants.{START_SECOND}
 use Rattle.ch_transcript.specs.Progress.{Socket}
 use Rattle.ch_transcript.specs.Turns.{data_of, does, heard_socket, hears, session_of, ticks, ticks_as}
 
@@ -75,7 +76,7 @@ stays_of config asked old new makes has = record {
 
 -- the session may go on after it was heard
 pub ready_heard : (config : Config) (number at : ℕ) (text : List ℕ) (asked : List Asked) (before after : Kept) (old new : DeskView) (response : Response)
-    → Hears config at text asked (record { session = before; desk = old }) (record { session = after; desk = new }) response → IsOver after config
+    → Hears config at text asked (record { session = before; desk = old }) (record { session = after; desk = new }) response → HasShardsOf after config
     → IsReady config number before → IsReady config number after
 ready_heard config number at text asked before after old new response h over ready = record {
   over = over;
@@ -95,7 +96,7 @@ pub hears_part : CallsAlone → (config : Config) (number at : ℕ) (text : List
     → TellsOf number response before after goes_on → IsOpen number old_session s → IsAt old shards → IsAlone desk
     → HearsPart config number at text s shards goes_on session desk before after
 hears_part law config number at text s shards asked old_session session old desk response goes_on before after h told socket lists alone =
-    let a = h.answers start_second number s.asks socket.session in
+    let a = h.answers START_SECOND number s.asks socket.session in
     let outcomes = comes_to a.user_data a.hears asked in
     let frames : option_to_list response.reply ≡ frames_in outcomes = h.tells.frames ∙ ap frames_in a.comes in
     let ends : response.end ≡ end_in outcomes = h.tells.ends ∙ ap end_in a.comes in
@@ -108,7 +109,7 @@ hears_part law config number at text s shards asked old_session session old desk
           let then_shards = after_asks shards (asks_of asked) in
           let then_open : IsOpen number session then_s = record {
             lives = socket.lives;
-            session = h.settles start_second number s.asks socket.session;
+            session = h.settles START_SECOND number s.asks socket.session;
             quiet = ap (λ (k : Kept). k.quiet) h.same;
           } in
           let text_is : after ≡ before ++ (frame_lines number (frames_in outcomes) ++ ending_lines number response.end) =
@@ -142,6 +143,6 @@ pub ticks_part : (number at : ℕ) (session ticked : Kept) (s : Socket) (shards 
 ticks_part number at session ticked s shards desk due goes_on old new is_due same stands told socket lists =
     let quiet : ticked.quiet ≡ quiet_after s.quiet at = ap (λ (k : Kept). k.quiet) same ∙ ap (λ q. quiet_after q at) socket.quiet in
     let open_still : IsOpen number ticked (record { is_open = s.is_open; quiet = quiet_after s.quiet at; asks = s.asks }) =
-    record { lives = socket.lives; session = stands start_second number s.asks socket.session; quiet = quiet } in
+    record { lives = socket.lives; session = stands START_SECOND number s.asks socket.session; quiet = quiet } in
     subst (λ d. TakesPart goes_on number at ticked desk old new (ticks_as number at d (record { is_open = s.is_open; quiet = quiet_after s.quiet at; asks = s.asks }) shards))
     (is_due ∙ ap (λ q. due_of q at) socket.quiet) (told _ open_still lists)

@@ -18,7 +18,7 @@ use Rattle.ch_session.specs.Losses.{losses_from, loss_at}
 use Rattle.ch_session.specs.Told.{uses_place}
 use Rattle.ch_socket.specs.Sockets.{IsOpen}
 use Rattle.ch_socket.specs.Turns.{MayTurn}
-use Rattle.ch_transcript.specs.Printing.{start_second}
+use Rattle.ch_transcript.specs.declared.start.TheConstants.{START_SECOND}
 use Rattle.ch_transcript.specs.Progress.{Socket}
 
 -- ---- one loss
@@ -120,7 +120,7 @@ are_lost law number at asked old_session session old desk s shards may made all 
     let left : length old_session.told.used - old_session.lost ≡ n + m = omega (arith, row, may.ready.owes) in
     let uses = uses_place n s.asks in
     let asks_are : asks_of asked ≡ losses_from uses (loss_at n number at) (n + m) 0 =
-    all start_second number s.asks socket.session
+    all START_SECOND number s.asks socket.session
     ∙ ap (λ c. losses_from (uses_place c s.asks) (loss_at c old_session.number at) (length old_session.told.used - old_session.lost) old_session.lost) chans
     ∙ ap (λ i. losses_from uses (loss_at n i at) (length old_session.told.used - old_session.lost) old_session.lost) may.ready.numbered
     ∙ ap (λ l. losses_from uses (loss_at n number at) l old_session.lost) left

@@ -2,6 +2,7 @@
 use Rattle.std.specs.Prelude.{◌≡◌, ◌≢◌, ◌++◌, ℕ, Bool, not, List, [], Option, Some, None, is_some}
 use Rattle.ch_base.specs.declared.frame.Frame.{Frame}
 use Rattle.ch_base.specs.declared.frame.Frame.TheVariants.{Error}
+use Rattle.ch_base.specs.declared.error_codes.TheConstants.{OUT_OF_MEMORY, RECONNECT}
 use Rattle.ch_dispatch.specs.declared.response.Response.{Response}
 use Rattle.ch_transcript.specs.Printing.{frame_line, end_lines}
 
@@ -17,8 +18,8 @@ ending_lines number (Some code) = end_lines number code
 
 -- the response doesn't say that there was no memory
 pub record HadMemory (response : Response) : Type 0 where
-  pub heard : response.reply ≢ Some (Error 4329)
-  pub served : response.end ≢ Some 4200
+  pub heard : response.reply ≢ Some (Error OUT_OF_MEMORY)
+  pub served : response.end ≢ Some RECONNECT
 
 -- the response was written, and the connection goes on unless the response ends it
 pub record TellsOf (number : ℕ) (response : Response) (old new : List ℕ) (goes_on : Bool) : Type 0 where

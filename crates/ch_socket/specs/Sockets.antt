@@ -3,15 +3,15 @@ use Rattle.std.specs.Prelude.{◌≡◌, ℕ, true, false, List, ◌++◌, Optio
 use Rattle.ch_config.specs.declared.config.Config.{Config}
 use Rattle.ch_desk.specs.AloneCalls.{IsAt}
 use Rattle.ch_desk.specs.Views.{DeskView}
-use Rattle.ch_session.specs.Kept.{Kept, IsSession, IsOver}
+use Rattle.ch_session.specs.Kept.{Kept, IsSession, HasShardsOf}
 use Rattle.ch_session.specs.declared.waiting.Waiting.TheVariants.{Nothing}
-use Rattle.ch_transcript.specs.Printing.{start_second}
+use Rattle.ch_transcript.specs.declared.start.TheConstants.{START_SECOND}
 use Rattle.ch_transcript.specs.Progress.{Socket}
 use Rattle.ch_transcript.specs.Turns.{Turn}
 
 -- the session has this number and is over the shards of the configuration; no ask waits, and no loss was made
 pub record IsReady (config : Config) (number : ℕ) (session : Kept) : Type 0 where
-  pub over : IsOver session config
+  pub over : HasShardsOf session config
   pub numbered : session.number ≡ number
   pub idle : session.waits ≡ Nothing
   pub owes : session.lost ≡ 0
@@ -19,7 +19,7 @@ pub record IsReady (config : Config) (number : ℕ) (session : Kept) : Type 0 wh
 -- the session is that of the open socket with this number
 pub record IsOpen (number : ℕ) (kept : Kept) (s : Socket) : Type 0 where
   pub lives : s.is_open ≡ true
-  pub session : IsSession kept start_second number s.asks
+  pub session : IsSession kept START_SECOND number s.asks
   pub quiet : kept.quiet ≡ s.quiet
 
 -- an open socket has its session, and one whose connection ended has none

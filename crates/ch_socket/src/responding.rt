@@ -1,17 +1,12 @@
 ghost use Rattle.std.specs.Prelude.{◌≡◌, ◌≢◌, ◌++◌, false, IfOk, OnOk, Some};
 ghost use Rattle.ch_base.specs.declared.frame.Frame.TheVariants.{Error};
+ghost use Rattle.ch_base.specs.declared.error_codes.TheConstants.{OUT_OF_MEMORY, RECONNECT};
 ghost use Rattle.ch_socket.specs.Responses.{TellsOf, reply_lines, ending_lines};
 
 use crate::printing::{put_end, put_frame};
-use ch_base::{Frame, Memory};
+use ch_base::{Frame, Memory, OUT_OF_MEMORY, RECONNECT};
 use ch_dispatch::Response;
 use std::alloc::Global;
-
-/// The code by which a socket is told that there was no memory for its message, or for the first of its asks.
-const OUT_OF_MEMORY: u16 = 4329;
-
-/// The code with which a connection ends when there was no memory for a later ask.
-const FAULT: u16 = 4200;
 
 /// Adds the lines of a response, and answers whether the connection goes on. There is none for want of
 /// memory.
@@ -35,7 +30,7 @@ fn put_reply(
     number: u64,
     reply: Option<Frame>,
 ) -> Result<(), Memory>
-    ensures memory { OnOk result (reply ≢ Some (Error 4329)) }
+    ensures memory { OnOk result (reply ≢ Some (Error OUT_OF_MEMORY)) }
     ensures text { OnOk result (out.new.items ≡ out.old.items ++ reply_lines number reply) }
 {
     match reply {
@@ -45,7 +40,7 @@ fn put_reply(
 }
 
 fn put_heard(alloc: Global, out: &mut Vec<u8>, number: u64, frame: Frame) -> Result<(), Memory>
-    ensures memory { OnOk result (frame ≢ Error 4329) }
+    ensures memory { OnOk result (frame ≢ Error OUT_OF_MEMORY) }
     ensures text { OnOk result (out.new.items ≡ out.old.items ++ reply_lines number (Some frame)) }
 {
     if tells_no_memory(&frame) {
@@ -56,7 +51,7 @@ fn put_heard(alloc: Global, out: &mut Vec<u8>, number: u64, frame: Frame) -> Res
 
 /// Whether a frame says that there was no memory.
 fn tells_no_memory(frame: &Frame) -> bool
-    ensures { result ≡ false → frame.now ≢ Error 4329 }
+    ensures { result ≡ false → frame.now ≢ Error OUT_OF_MEMORY }
 {
     match frame {
         Frame::Error { code } => *code == OUT_OF_MEMORY,
@@ -65,12 +60,12 @@ fn tells_no_memory(frame: &Frame) -> bool
 }
 
 fn put_ending(alloc: Global, out: &mut Vec<u8>, number: u64, end: Option<u16>) -> Result<(), Memory>
-    ensures memory { OnOk result (end ≢ Some 4200) }
+    ensures memory { OnOk result (end ≢ Some RECONNECT) }
     ensures text { OnOk result (out.new.items ≡ out.old.items ++ ending_lines number end) }
 {
     match end {
         None => Ok(()),
-        Some(FAULT) => Err(Memory),
+        Some(RECONNECT) => Err(Memory),
         Some(code) => put_end(alloc, out, number, code),
     }
 }

@@ -11,15 +11,12 @@ ghost use Rattle.ch_transcript.specs.Turns.{ticks, ticks_as};
 
 use crate::printing::{put_end, put_frame};
 use crate::turns::finish;
-use ch_base::{Frame, Memory};
+use ch_base::{Frame, Memory, NO_PONG};
 use ch_config::Config;
 use ch_desk::{Desk, calls_chain};
 use ch_rate::Due;
 use ch_session::Session;
 use std::alloc::Global;
-
-/// The code with which a silent connection ends (Pusher Channels protocol, "Error codes").
-const SILENT: u16 = 4201;
 
 /// Does what the socket with this number is due at the moment `at`: a ping, or the end of its connection.
 /// The session is given back unless the connection ends.
@@ -68,7 +65,7 @@ fn put_due(alloc: Global, out: &mut Vec<u8>, number: u64, at: u64, due: Due) -> 
             Ok(true)
         }
         Due::Expired => {
-            put_end(alloc, out, number, SILENT)?;
+            put_end(alloc, out, number, NO_PONG)?;
             Ok(false)
         }
     }

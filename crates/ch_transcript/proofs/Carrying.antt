@@ -3,7 +3,8 @@ use Rattle.std.proofs.Common.{◌≡◌, ℕ, Bool, false, ◌+◌, ◌<◌, ◌
 use Rattle.std.specs.Prelude.{Option, Some, None, MatchBool}
 use Rattle.std.proofs.lemmas.Bool.{le-ltb, lt-ltb}
 use Rattle.ch_config.specs.declared.config.Config.{Config}
-use Rattle.ch_transcript.specs.Lines.{longest_line, has_line_end, lines_of, whole_lines}
+use Rattle.ch_transcript.specs.Lines.{has_line_end, lines_of, whole_lines}
+use Rattle.ch_transcript.specs.declared.limits.TheConstants.{LONGEST_LINE}
 use Rattle.ch_transcript.specs.Printing.{error_line, long_line}
 use Rattle.ch_transcript.specs.Outcomes.{Plays, Outcome, ends, after_text, Follows, OutcomeFrom, HasOutcome}
 use Rattle.ch_transcript.specs.Progress.{Progress, beginning, Played}
@@ -20,18 +21,18 @@ Carries-begin config = record { on = λ rest o h. h; whole = λ rest. refl }
 -- ---- one line
 
 -- what follows a line that isn't too long
-pub outcome-line : (config : Config) (n : ℕ) (p : Progress) (line : List ℕ) (lines : List (List ℕ)) (x : Option Played) (o : Outcome) → length line ≤ longest_line → Plays config p line x
+pub outcome-line : (config : Config) (n : ℕ) (p : Progress) (line : List ℕ) (lines : List (List ℕ)) (x : Option Played) (o : Outcome) → length line ≤ LONGEST_LINE → Plays config p line x
     → Follows n (λ q later. OutcomeFrom config (n + 1) q lines later) x o → OutcomeFrom config n p (line ∷ lines) o
 outcome-line config n p line lines x o short plays follows =
     let P : Bool → Type 0 = λ t. MatchBool t (o ≡ ends 8 (long_line n))
     ((y : Option Played) × Plays config p line y × Follows n (λ q later. OutcomeFrom config (n + 1) q lines later) y o) in
-    subst P (sym (le-ltb longest_line (length line) short)) (x, plays, follows)
+    subst P (sym (le-ltb LONGEST_LINE (length line) short)) (x, plays, follows)
 
-pub outcome-long : (config : Config) (n : ℕ) (p : Progress) (line : List ℕ) (lines : List (List ℕ)) → longest_line < length line → OutcomeFrom config n p (line ∷ lines) (ends 8 (long_line n))
+pub outcome-long : (config : Config) (n : ℕ) (p : Progress) (line : List ℕ) (lines : List (List ℕ)) → LONGEST_LINE < length line → OutcomeFrom config n p (line ∷ lines) (ends 8 (long_line n))
 outcome-long config n p line lines long =
     let P : Bool → Type 0 = λ t. MatchBool t (ends 8 (long_line n) ≡ ends 8 (long_line n))
     ((y : Option Played) × Plays config p line y × Follows n (λ q later. OutcomeFrom config (n + 1) q lines later) y (ends 8 (long_line n))) in
-    subst P (sym (lt-ltb longest_line (length line) long)) refl
+    subst P (sym (lt-ltb LONGEST_LINE (length line) long)) refl
 
 -- ---- outcomes under equal names
 
@@ -56,7 +57,7 @@ seam done line rest = append_assoc done (line ++ 10 ∷ []) rest ∙ ap (λ z. d
 -- ---- more lines
 
 -- a line that says something
-pub Carries-line : {config : Config} {done wrote : List ℕ} {n : ℕ} {p : Progress} (line : List ℕ) (x : Played) → Carries config done wrote n p → has_line_end line ≡ false → length line ≤ longest_line
+pub Carries-line : {config : Config} {done wrote : List ℕ} {n : ℕ} {p : Progress} (line : List ℕ) (x : Played) → Carries config done wrote n p → has_line_end line ≡ false → length line ≤ LONGEST_LINE
     → Plays config p line (Some x) → Carries config (done ++ (line ++ 10 ∷ [])) (wrote ++ x.text) (n + 1) x.next
 Carries-line {config} {done} {wrote} {n} {p} line x c none short plays = record {
   on = λ rest o later. moved config (sym (seam done line rest)) (after_two wrote x.text o)
@@ -87,7 +88,7 @@ Carries-failed {config} {done} read line c e none =
     moved config (sym (ap whole_lines e ∙ c.whole line ∙ ap (λ z. done ++ z) (whole_lines-none line none) ∙ append-nil done)) refl (on_nothing c)
 
 -- the last line says something
-pub Carries-last : {config : Config} {done wrote : List ℕ} {n : ℕ} {p : Progress} (read line : List ℕ) (x : Played) → Carries config done wrote n p → read ≡ done ++ line → has_line_end line ≡ false → length line ≤ longest_line
+pub Carries-last : {config : Config} {done wrote : List ℕ} {n : ℕ} {p : Progress} (read line : List ℕ) (x : Played) → Carries config done wrote n p → read ≡ done ++ line → has_line_end line ≡ false → length line ≤ LONGEST_LINE
     → 0 < length line → Plays config p line (Some x) → HasOutcome config read (ends 0 (wrote ++ x.text))
 Carries-last {config} {wrote} {n} {p} read line x c e none short some plays =
     moved config (sym e) refl (c.on line (ends 0 x.text)
@@ -95,7 +96,7 @@ Carries-last {config} {wrote} {n} {p} read line x c e none short some plays =
     (outcome-line config n p line [] (Some x) (ends 0 x.text) short plays (ends 0 [], refl, ap (ends 0) (sym (append-nil x.text))))))
 
 -- a line is refused, however the input goes on
-pub Carries-refused : {config : Config} {done wrote : List ℕ} {n : ℕ} {p : Progress} (read line new rest : List ℕ) → Carries config done wrote n p → read ≡ done ++ (line ++ 10 ∷ new) → has_line_end line ≡ false → length line ≤ longest_line
+pub Carries-refused : {config : Config} {done wrote : List ℕ} {n : ℕ} {p : Progress} (read line new rest : List ℕ) → Carries config done wrote n p → read ≡ done ++ (line ++ 10 ∷ new) → has_line_end line ≡ false → length line ≤ LONGEST_LINE
     → Plays config p line None → HasOutcome config (read ++ rest) (ends 4 (wrote ++ error_line n))
 Carries-refused {config} {done} {wrote} {n} {p} read line new rest c e none short plays =
     moved config (sym (ap (λ z. z ++ rest) e ∙ append_assoc done (line ++ 10 ∷ new) rest ∙ ap (λ z. done ++ z) (append_assoc line (10 ∷ new) rest))) refl
@@ -103,7 +104,7 @@ Carries-refused {config} {done} {wrote} {n} {p} read line new rest c e none shor
     (from_lines config n p _ _ _ (lines_of-line line (new ++ rest) none)
     (outcome-line config n p line (lines_of (new ++ rest)) None (ends 4 (error_line n)) short plays refl)))
 
-pub Carries-last_refused : {config : Config} {done wrote : List ℕ} {n : ℕ} {p : Progress} (read line : List ℕ) → Carries config done wrote n p → read ≡ done ++ line → has_line_end line ≡ false → length line ≤ longest_line
+pub Carries-last_refused : {config : Config} {done wrote : List ℕ} {n : ℕ} {p : Progress} (read line : List ℕ) → Carries config done wrote n p → read ≡ done ++ line → has_line_end line ≡ false → length line ≤ LONGEST_LINE
     → 0 < length line → Plays config p line None → HasOutcome config read (ends 4 (wrote ++ error_line n))
 Carries-last_refused {config} {wrote} {n} {p} read line c e none short some plays =
     moved config (sym e) refl (c.on line (ends 4 (error_line n))
@@ -111,14 +112,14 @@ Carries-last_refused {config} {wrote} {n} {p} read line c e none short some play
     (outcome-line config n p line [] None (ends 4 (error_line n)) short plays refl)))
 
 -- a line is too long, however the input goes on
-begun_long : (config : Config) (n : ℕ) (p : Progress) (line more : List ℕ) → has_line_end line ≡ false → longest_line < length line → OutcomeFrom config n p (lines_of (line ++ more)) (ends 8 (long_line n))
+begun_long : (config : Config) (n : ℕ) (p : Progress) (line more : List ℕ) → has_line_end line ≡ false → LONGEST_LINE < length line → OutcomeFrom config n p (lines_of (line ++ more)) (ends 8 (long_line n))
 begun_long config n p [] more none long = absurd (omega arith)
 begun_long config n p (b ∷ line) more none long =
     let at = lines_of-begun b line more none in
-    let longer : longest_line < length (b ∷ line ++ at.0) = omega (arith, length-append (b ∷ line) at.0, long) in
+    let longer : LONGEST_LINE < length (b ∷ line ++ at.0) = omega (arith, length-append (b ∷ line) at.0, long) in
     from_lines config n p _ _ _ at.2 (outcome-long config n p (b ∷ line ++ at.0) at.1 longer)
 
-pub Carries-long : {config : Config} {done wrote : List ℕ} {n : ℕ} {p : Progress} (read line more rest : List ℕ) → Carries config done wrote n p → read ≡ done ++ (line ++ more) → has_line_end line ≡ false → longest_line < length line
+pub Carries-long : {config : Config} {done wrote : List ℕ} {n : ℕ} {p : Progress} (read line more rest : List ℕ) → Carries config done wrote n p → read ≡ done ++ (line ++ more) → has_line_end line ≡ false → LONGEST_LINE < length line
     → HasOutcome config (read ++ rest) (ends 8 (wrote ++ long_line n))
 Carries-long {config} {done} {wrote} {n} {p} read line more rest c e none long =
     moved config (sym (ap (λ z. z ++ rest) e ∙ append_assoc done (line ++ more) rest ∙ ap (λ z. done ++ z) (append_assoc line more rest))) refl

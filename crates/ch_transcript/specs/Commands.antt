@@ -6,6 +6,7 @@ use Rattle.std.specs.Fmt.{decimal}
 use Rattle.std.specs.Str.Parse.{digits_value}
 use Rattle.hex.specs.Hex.{decode_of}
 use Rattle.hex.specs.declared.error.FromHexError.{FromHexError}
+use Rattle.ch_base.specs.declared.limits.TheConstants.{LATEST_MOMENT}
 use Rattle.ch_history.specs.ChannelName.{is_good_name}
 use Rattle.ch_history.specs.Limits.{is_event_name}
 use Rattle.ch_transcript.specs.declared.commands.Command.{Command}
@@ -16,10 +17,6 @@ use Rattle.ch_transcript.specs.declared.commands.Line.{Line}
 use Rattle.ch_transcript.specs.declared.commands.Line.TheVariants.{Skipped, Timed, Bad}
 
 -- ---- parts
-
--- the latest moment, in milliseconds
-abbrev pub latest_moment : ℕ
-latest_moment = 1000000000000000
 
 -- parts are parted by one blank; a part may be empty
 abbrev pub is_blank : ℕ → Bool
@@ -39,7 +36,7 @@ more_parts text = if has_blank text then Some (after_first is_blank text) else N
 -- the number that is written so: in decimal, without a leading zero, and no greater than the latest moment
 abbrev pub number_in : List ℕ → Option ℕ
 number_in text =
-    if nat_le (digits_value 10 text) latest_moment && bytes_eq (decimal (digits_value 10 text)) text
+    if nat_le (digits_value 10 text) LATEST_MOMENT && bytes_eq (decimal (digits_value 10 text)) text
     then Some (digits_value 10 text) else None
 
 -- ---- commands, by what follows their word
@@ -207,5 +204,5 @@ IsCommand _ = Unit {0}
 
 abbrev pub IsLine : Line → Type 0
 IsLine Skipped = Unit {0}
-IsLine (Timed at command) = (at ≤ latest_moment) × IsCommand command
+IsLine (Timed at command) = (at ≤ LATEST_MOMENT) × IsCommand command
 IsLine Bad = Unit {0}

@@ -13,7 +13,8 @@ use Rattle.ch_requests.specs.declared.plan.Planned.TheVariants.{Answer, Ask as A
 use Rattle.ch_requests.specs.declared.request.Look.{Look}
 use Rattle.ch_requests.specs.declared.request.Look.TheVariants.{Need, Upgrade, Ready, Refuse}
 use Rattle.ch_requests.specs.declared.trigger.Trigger.{Trigger}
-use Rattle.ch_transcript.specs.Printing.{start_second, reply_line, shake_line, need_line}
+use Rattle.ch_transcript.specs.Printing.{reply_line, shake_line, need_line}
+use Rattle.ch_transcript.specs.declared.start.TheConstants.{START_SECOND}
 use Rattle.ch_transcript.specs.Progress.{Progress, Played}
 
 -- what a request writes, and how the shards are then
@@ -31,7 +32,7 @@ answers shards (AskPlan plan) =
 abbrev pub exchanges : Config → ℕ → Look → Option (List Trigger) → Shards → Exchange
 exchanges config at Need ts shards = record { text = need_line; shards = shards }
 exchanges config at (Upgrade head) ts shards = record { text = shake_line (handshake_key head); shards = shards }
-exchanges config at (Ready q) ts shards = answers shards (planned config start_second q at ts)
+exchanges config at (Ready q) ts shards = answers shards (planned config START_SECOND q at ts)
 exchanges config at (Refuse status) ts shards = record { text = reply_line (refusal status); shards = shards }
 
 abbrev pub of_exchange : Progress → Exchange → Played

@@ -13,12 +13,13 @@ use Rattle.ch_webhooks.specs.Batches.{batch_of}
 use Rattle.ch_webhooks.specs.Batching.{Batching, after_cut, cut_now, with_events}
 use Rattle.ch_webhooks.specs.declared.batch.Batch.{Batch}
 use Rattle.ch_webhooks.specs.declared.batch.Sender.{Sender}
-use Rattle.ch_transcript.specs.Printing.{line_end, start_second}
+use Rattle.ch_transcript.specs.Printing.{line_end}
+use Rattle.ch_transcript.specs.declared.start.TheConstants.{START_SECOND}
 use Rattle.ch_transcript.specs.Progress.{Progress, Played, Webhooks}
 
 -- who sends the webhooks of a transcript
 abbrev pub sender_of : Config → Sender
-sender_of config = record { key = config.key; secret = config.secret; start = start_second }
+sender_of config = record { key = config.key; secret = config.secret; start = START_SECOND }
 
 -- a batcher that has sent all its batches
 abbrev pub batching_of : Config → Webhooks → Batching

@@ -4,13 +4,13 @@ use Rattle.ch_base.specs.Escape.{quoted}
 use Rattle.ch_config.specs.declared.config.Config.{Config}
 use Rattle.ch_history.specs.ChannelName.{kind_of, needs_auth}
 use Rattle.ch_protocol.specs.Sessions.{channel_auth, user_auth}
-use Rattle.ch_transcript.specs.Printing.{start_second}
+use Rattle.ch_transcript.specs.declared.start.TheConstants.{START_SECOND}
 
 -- the member `auth`, where the channel's kind needs one
 abbrev pub auth_member : Config → ℕ → List ℕ → Option (List ℕ) → List ℕ
 auth_member config number channel channel_data =
     if needs_auth (kind_of channel)
-    then codes ",\"auth\":" ++ quoted (channel_auth config start_second number channel channel_data) else []
+    then codes ",\"auth\":" ++ quoted (channel_auth config START_SECOND number channel channel_data) else []
 
 -- the member `channel_data`, where there are data
 abbrev pub data_member : Option (List ℕ) → List ℕ
@@ -26,5 +26,5 @@ join_text config number channel channel_data =
 -- the socket signs a user in, rightly authorized
 abbrev pub sign_in_text : Config → ℕ → List ℕ → List ℕ
 sign_in_text config number user_data =
-    codes "{\"event\":\"pusher:signin\",\"data\":{\"auth\":" ++ quoted (user_auth config start_second number user_data)
+    codes "{\"event\":\"pusher:signin\",\"data\":{\"auth\":" ++ quoted (user_auth config START_SECOND number user_data)
     ++ codes ",\"user_data\":" ++ quoted user_data ++ codes "}}"

@@ -2,10 +2,6 @@
 use Rattle.std.specs.Prelude.{ℕ, Bool, ◌==◌, List, [], ◌∷◌, if◌then◌else◌}
 use Rattle.std.specs.List.{list_any}
 
--- the longest line, in bytes without its line end
-abbrev pub longest_line : ℕ
-longest_line = 1048576
-
 -- whether the byte stands among these
 abbrev pub has_byte : ℕ → List ℕ → Bool
 has_byte x bytes = list_any (λ b. b == x) bytes

@@ -13,6 +13,7 @@ use Rattle.ch_protocol.specs.Targets.{target_refusal}
 use Rattle.ch_requests.specs.Replies.{refusal}
 use Rattle.ch_requests.specs.declared.request.Look.{Look}
 use Rattle.ch_requests.specs.declared.trigger.Trigger.{Trigger}
+use Rattle.ch_transcript.specs.declared.limits.TheConstants.{MOST_OPENED}
 use Rattle.ch_transcript.specs.declared.commands.Command.{Command}
 use Rattle.ch_transcript.specs.declared.commands.Command.TheVariants.{Open, Say, Join, SignIn as SignInCommand, Lose, Tick, Publish, Tail, Api, Hooks, Http}
 use Rattle.ch_transcript.specs.Joining.{join_text, sign_in_text}
@@ -37,14 +38,10 @@ of_socket p number turn =
     then Some (if is_live p.sockets number then takes_turn p number (turn (socket_of p.sockets number) p.shards) else quietly p)
     else None
 
--- the most lines that open a connection
-abbrev pub most_opened : ℕ
-most_opened = 65536
-
 -- what the next socket is told: its id, or the code that refuses its target
-abbrev pub greeting : ℕ → Option ℕ → List ℕ
-greeting number None = frame_line number (frame.Opened number)
-greeting number (Some code) = end_lines number code
+abbrev pub opening_lines : ℕ → Option ℕ → List ℕ
+opening_lines number None = frame_line number (frame.Opened number)
+opening_lines number (Some code) = end_lines number code
 
 abbrev pub is_accepted : Option ℕ → Bool
 is_accepted None = true
@@ -53,9 +50,9 @@ is_accepted (Some code) = false
 -- the next connection is opened, or refused
 abbrev pub opens : Progress → ℕ → Option ℕ → Option Played
 opens p at refusal =
-    if nat_lt (length p.sockets) most_opened
+    if nat_lt (length p.sockets) MOST_OPENED
     then Some (record {
-      text = greeting (length p.sockets + 1) refusal;
+      text = opening_lines (length p.sockets + 1) refusal;
       next = record {
         at = p.at;
         sockets = p.sockets ++ record { is_open = is_accepted refusal; quiet = quiet_from at; asks = [] } ∷ [];

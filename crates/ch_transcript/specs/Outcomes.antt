@@ -3,7 +3,8 @@ use Rattle.std.specs.Prelude.{◌≡◌, ℕ, ◌+◌, nat_le, nat_lt, List, [],
 use Rattle.ch_config.specs.declared.config.Config.{Config}
 use Rattle.ch_transcript.specs.declared.commands.Line.{Line}
 use Rattle.ch_transcript.specs.declared.commands.Line.TheVariants.{Skipped, Timed, Bad}
-use Rattle.ch_transcript.specs.Lines.{longest_line, lines_of}
+use Rattle.ch_transcript.specs.Lines.{lines_of}
+use Rattle.ch_transcript.specs.declared.limits.TheConstants.{LONGEST_LINE}
 use Rattle.ch_transcript.specs.Commands.{line_of}
 use Rattle.ch_transcript.specs.Printing.{error_line, long_line}
 use Rattle.ch_transcript.specs.Progress.{Progress, beginning, Played, quietly}
@@ -50,7 +51,7 @@ Follows n More (Some x) o = (later : Outcome) × More x.next later × (o ≡ aft
 abbrev pub OutcomeFrom : Config → ℕ → Progress → List (List ℕ) → Outcome → Type 0
 OutcomeFrom config n p [] o = o ≡ ends 0 []
 OutcomeFrom config n p (line ∷ lines) o =
-    MatchBool (nat_lt longest_line (length line)) (o ≡ ends 8 (long_line n))
+    MatchBool (nat_lt LONGEST_LINE (length line)) (o ≡ ends 8 (long_line n))
     ((x : Option Played) × Plays config p line x × Follows n (λ q later. OutcomeFrom config (n + 1) q lines later) x o)
 
 -- the outcome of a transcript

@@ -38,13 +38,13 @@ pub record Refuses (config : Config) (status : ℕ) (name : ℕ → List ℕ) (a
   pub whole : (wrote ≡ front ++ name number) ⊎ write_failed
 
 -- what was read and written, by the ending
-abbrev pub Says : Config → Ending → Type 0 → Type 0 → List ℕ → List ℕ → Type 0
-Says config Done at_end write_failed read wrote = at_end × HasOutcome config read (ends 0 wrote)
-Says config NotALine at_end write_failed read wrote = Refuses config 4 error_line at_end write_failed read wrote
-Says config LongLine at_end write_failed read wrote = Refuses config 8 long_line at_end write_failed read wrote
-Says config ReadFailed at_end write_failed read wrote = HasOutcome config (whole_lines read) (ends 0 wrote)
-Says config WriteFailed at_end write_failed read wrote = IsPart config at_end read wrote
-Says config Memory at_end write_failed read wrote = IsPart config at_end read wrote
+abbrev pub Reports : Config → Ending → Type 0 → Type 0 → List ℕ → List ℕ → Type 0
+Reports config Done at_end write_failed read wrote = at_end × HasOutcome config read (ends 0 wrote)
+Reports config NotALine at_end write_failed read wrote = Refuses config 4 error_line at_end write_failed read wrote
+Reports config LongLine at_end write_failed read wrote = Refuses config 8 long_line at_end write_failed read wrote
+Reports config ReadFailed at_end write_failed read wrote = HasOutcome config (whole_lines read) (ends 0 wrote)
+Reports config WriteFailed at_end write_failed read wrote = IsPart config at_end read wrote
+Reports config Memory at_end write_failed read wrote = IsPart config at_end read wrote
 
 -- the bytes that a replay read from its source and wrote to its sink, where these tell them
 pub record Ran (config : Config) (left_old left_new told_old told_new : Option (List ℕ)) (write_failed : Type 0) (ending : Ending) : Type 0 where
@@ -52,7 +52,7 @@ pub record Ran (config : Config) (left_old left_new told_old told_new : Option (
   pub wrote : List ℕ
   pub consumed : Consumes left_old left_new read
   pub gained : Appends told_old told_new wrote
-  pub says : Says config ending (IsAtEnd left_new) write_failed read wrote
+  pub says : Reports config ending (IsAtEnd left_new) write_failed read wrote
 
 -- the status that an ending is told by
 abbrev pub status_of : Ending → ℕ

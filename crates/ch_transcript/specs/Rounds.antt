@@ -6,6 +6,7 @@ use Rattle.ch_base.specs.declared.frame.Frame.{Frame}
 use Rattle.ch_base.specs.declared.user.UserCall.TheVariants as user
 use Rattle.ch_base.specs.declared.frame.Frame.TheVariants as frame
 use Rattle.ch_base.specs.declared.frame.FrameFor.{FrameFor}
+use Rattle.ch_base.specs.declared.error_codes.TheConstants.{UNAUTHORIZED}
 use Rattle.ch_config.specs.declared.config.Config.{Config}
 use Rattle.ch_history.specs.Alone.{with_call, with_user_call}
 use Rattle.ch_history.specs.Frames.{waiting}
@@ -22,7 +23,7 @@ pub record Telling : Type 0 where
 -- an open socket is told a frame; a Kill ends its connection
 abbrev pub tells_as : List Socket → ℕ → Frame → Telling
 tells_as sockets number frame.Kill =
-    record { text = end_lines number 4009; sockets = with_socket sockets number (closed (socket_of sockets number)) }
+    record { text = end_lines number UNAUTHORIZED; sockets = with_socket sockets number (closed (socket_of sockets number)) }
 tells_as sockets number frame = record { text = frame_line number frame; sockets = sockets }
 
 -- a frame for a connection that ended is dropped

@@ -1,6 +1,7 @@
 -- What one socket's turn writes, and how the socket and the shards are then: a text that is heard, or silence.
 use Rattle.std.specs.Prelude.{ℕ, ◌+◌, List, [], ◌∷◌, ◌++◌, Ok}
 use Rattle.ch_base.specs.declared.frame.Frame.TheVariants as frame
+use Rattle.ch_base.specs.declared.error_codes.TheConstants.{NO_PONG}
 use Rattle.ch_config.specs.declared.config.Config.{Config}
 use Rattle.ch_rate.specs.Quiet.{quiet_from, due_of, quiet_after}
 use Rattle.ch_rate.specs.declared.activity.Due.{Due}
@@ -17,7 +18,8 @@ use Rattle.ch_protocol.specs.declared.heard.Heard.{Heard}
 use Rattle.ch_protocol.specs.declared.heard.Heard.TheVariants as heard
 use Rattle.ch_protocol.specs.declared.heard.Settled.{Settled}
 use Rattle.ch_protocol.specs.declared.heard.Settled.TheVariants as settled
-use Rattle.ch_transcript.specs.Printing.{start_second, frame_line, end_lines}
+use Rattle.ch_transcript.specs.Printing.{frame_line, end_lines}
+use Rattle.ch_transcript.specs.declared.start.TheConstants.{START_SECOND}
 use Rattle.ch_transcript.specs.Progress.{Socket, closed}
 
 -- what a socket's command writes, and how the socket and the shards are then
@@ -81,7 +83,7 @@ does number at user_data (heard.Ask asks) s shards = asks_all number at user_dat
 -- the session of a socket at the moment
 abbrev pub session_of : Config → ℕ → ℕ → Socket → Session
 session_of config number at s =
-    record { config = config; start = start_second; number = number; asks = s.asks; now = at }
+    record { config = config; start = START_SECOND; number = number; asks = s.asks; now = at }
 
 -- the socket was heard at the moment
 abbrev pub heard_socket : ℕ → Socket → Socket
@@ -101,7 +103,7 @@ hears config number at r s shards =
 abbrev pub ticks_as : ℕ → ℕ → Due → Socket → Shards → Turn
 ticks_as number at due.Nothing s shards = writes [] s shards
 ticks_as number at due.Ping s shards = writes (frame_line number frame.Ping) s shards
-ticks_as number at due.Expired s shards = ends_with 4201 number at s shards
+ticks_as number at due.Expired s shards = ends_with NO_PONG number at s shards
 
 abbrev pub ticks : ℕ → ℕ → Socket → Shards → Turn
 ticks number at s shards =

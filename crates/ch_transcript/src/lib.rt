@@ -8,9 +8,11 @@
 mod commands;
 mod ending;
 mod examples;
+mod limits;
 mod start;
 
 pub use commands::{Command, Line, Method};
 pub use ending::Ending;
 pub use examples::{examples_hold, round_examples_hold};
+pub use limits::{LONGEST_LINE, MOST_OPENED};
 pub use start::START_SECOND;

@@ -2,9 +2,9 @@
 use Rattle.std.proofs.Common.{◌≡◌, inl, inr, ℕ, List, [], ◌∷◌, not, sym, subst, Some}
 use Rattle.std.specs.Prelude.{Option, None, IfSome, IsTrue, All, bytes_eq, filter}
 use Rattle.std.proofs.lemmas.List.Elements.{All-nil, All-cons, All-head, All-tail, All-filter}
+use Rattle.ch_history.specs.UserChannels.{is_subscribable}
 use Rattle.ch_base.specs.JsonTree.{Tree, Members}
 use Rattle.ch_base.specs.JsonText.{Unescapes, IsJsonString}
-use Rattle.ch_protocol.specs.ClientMessages.{is_subscribable}
 use Rattle.ch_protocol.specs.UserDataText.{first_places}
 use Rattle.ch_json.specs.Parts.{part, items_of}
 use Rattle.ch_requests.specs.Fit.{IsTriggerFit, AreFit}

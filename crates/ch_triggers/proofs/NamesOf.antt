@@ -1,29 +1,12 @@
--- Names of channels, and ids of sockets.
-use Rattle.std.proofs.Common.{◌≡◌, ℕ, List, ◌++◌, length, take, Bool, true, false, refl, sym, ap, ◌∙◌, Some}
-use Rattle.std.specs.Prelude.{Option, None, ◌==◌, is_some, if◌then◌else◌}
+-- Ids of sockets.
+use Rattle.std.proofs.Common.{◌≡◌, ℕ, List, Bool, true, false, refl, Some}
+use Rattle.std.specs.Prelude.{Option, None, ◌==◌, if◌then◌else◌}
 use Rattle.std.specs.List.{before_first, after_first}
-use Rattle.std.specs.Cmp.Lexicographic.{same_text}
-use Rattle.std.proofs.lemmas.List.{take-append-drop}
-use Rattle.ch_history.specs.ChannelName.{begins}
-use Rattle.ch_history.specs.Limits.{is_user_id}
 use Rattle.ch_names.specs.SocketIds.{written_number, socket_of, socket_id_of}
 use Rattle.ch_names.specs.declared.socket_id.SocketId.{SocketId}
 use Rattle.ch_names.specs.declared.socket_id.SocketId.TheVariants.{Bad, Stranger, Here}
-use Rattle.ch_protocol.specs.UserChannels.{user_prefix, behind_prefix, is_user_channel}
 use Rattle.ch_requests.specs.Triggers.{is_socket_id, is_point, IsSocketId}
 use Rattle.ch_triggers.specs.Bodies.{is_socket_or_none}
-
--- a name that begins otherwise is no user's channel
-pub no_user_channel : (name : List ℕ) → ((id : List ℕ) → name ≡ user_prefix ++ id → ⊥) → false ≡ is_user_channel name
-no_user_channel name other = test (begins user_prefix name) refl
-  where
-    test : (b : Bool) → b ≡ begins user_prefix name → false ≡ is_some (if b then (if is_user_id (behind_prefix name) then Some (behind_prefix name) else None) else None)
-    test true e =
-        let front : user_prefix ≡ take (length user_prefix) name = same_text user_prefix (take (length user_prefix) name) e in
-        absurd (other (behind_prefix name) (sym (take-append-drop (length user_prefix) name) ∙ ap (λ (x : List ℕ). x ++ behind_prefix name) (sym front)))
-    test false e = refl
-
--- ---- ids of sockets
 
 never_bad : (start : ℕ) (a b : Option ℕ) → Bad ≡ socket_of start a b → ⊥
 never_bad start None b e = cc

@@ -5,10 +5,11 @@ ghost use Rattle.ch_json.specs.NodeOf.{IsObject};
 ghost use Rattle.ch_members.specs.Readings.{Gives, IsObjectOf, IsArrayOf};
 ghost use Rattle.ch_requests.specs.Triggers.{HasChannel, HasChannels, HasEither, IsChannelList};
 
-use crate::names::{are_subscribable, is_subscribable};
+use crate::names::are_subscribable;
 use ch_base::{Memory, TextList};
 use ch_json::{Doc, Node};
 use ch_members::{Array, array_member, first_places, is_absent, string_member, strings_of};
+use ch_names::is_subscribable;
 use ch_requests::MOST_CHANNELS;
 use std::alloc::Global;
 
@@ -71,7 +72,7 @@ fn listed_channels(
     }
 }
 
-/// The 1 to 100 channels that the values of an array name, each at its first place alone.
+/// The 1 to `MOST_CHANNELS` channels that the values of an array name, each at its first place alone.
 fn channels_of(
     alloc: Global,
     text: &str,

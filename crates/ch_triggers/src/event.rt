@@ -9,10 +9,11 @@ ghost use Rattle.ch_triggers.specs.Bodies.{HasEventName, HasSocketId, AreThese, 
 
 use crate::channels::{either_channels, single_channel};
 use crate::content::content_member;
-use crate::names::{is_event_name, is_socket_id};
+use crate::names::is_socket_id;
 use ch_base::{Memory, Text, TextList};
 use ch_json::{Doc, Node};
 use ch_members::{is_plain_object, optional_member, string_member};
+use ch_names::is_event_name;
 use ch_requests::Trigger;
 use std::alloc::Global;
 

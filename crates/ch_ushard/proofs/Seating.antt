@@ -8,7 +8,7 @@ use Rattle.ch_base.specs.declared.user.UserAnswer.{UserAnswer}
 use Rattle.ch_base.specs.Growth.{entry}
 use Rattle.ch_history.specs.Entries.{UserHistory}
 use Rattle.ch_history.specs.Placement.{UserBelongsTo, IsUserLegalAt}
-use Rattle.ch_ushard.specs.Kept.{Kept}
+use Rattle.ch_ushard.specs.UserShardState.{UserShardState}
 use Rattle.ch_ushard.specs.Stands.{Stands}
 use Rattle.ch_ushard.specs.Seats.{StandsAt}
 
@@ -17,7 +17,7 @@ pub nothing_legal : (place : ℕ × ℕ) → IsUserLegalAt place []
 nothing_legal place = record { legal = tt; placed = All-nil (λ e. UserBelongsTo place e.call) }
 
 -- a served call is one entry more of what the seat stands for
-pub served : (old new : Kept) (place : ℕ × ℕ) (caller : ℕ) (call : UserCall) (r : Result UserAnswer Memory) → UserBelongsTo place call
+pub served : (old new : UserShardState) (place : ℕ × ℕ) (caller : ℕ) (call : UserCall) (r : Result UserAnswer Memory) → UserBelongsTo place call
     → ((h : UserHistory) → Stands old h → MatchResult r (λ answer. Stands new (h ++ entry caller call answer ∷ [])) (λ m. Stands new h))
     → IfOk r (λ answer. (h : UserHistory) → StandsAt old place h → StandsAt new place (h ++ entry caller call answer ∷ []))
 served old new place caller call (Ok answer) belongs stands = λ h was. let now = stands h was.0 in (

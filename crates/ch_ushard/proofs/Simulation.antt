@@ -13,17 +13,17 @@ use Rattle.ch_history.specs.UserLegal.{IsUserWellFormed}
 use Rattle.ch_history.proofs.UserPush.{sign_ins-push, watches-push, user_waiting-push}
 use Rattle.ch_history.proofs.UserLegal.{IsUserLegal-push}
 use Rattle.ch_outbox.specs.Outbox.{frames_of}
-use Rattle.ch_ushard.specs.Kept.{Kept, IsUnchanged}
+use Rattle.ch_ushard.specs.UserShardState.{UserShardState, IsUnchanged}
 use Rattle.ch_ushard.specs.Stands.{Stands}
 
 -- the shard goes from old to new by the entry
-pub record Moves (old new : Kept) (e : UserEntry) : Type 0 where
+pub record Moves (old new : UserShardState) (e : UserEntry) : Type 0 where
   pub answered : e.answer ≡ user_answer_by old.users.signs old.users.watches (frames_of old.outbox e.caller) e.call
   pub signs : new.users.signs ≡ sign_ins_after old.users.signs e
   pub watches : new.users.watches ≡ watches_after old.users.watches e
   pub frames : (w : ℕ) → frames_of new.outbox w ≡ cond (user_takes w e) [] (frames_of old.outbox w ++ for_owner w (user_frames_by old.users.signs new.users.signs old.users.watches new.users.watches e.caller e.answer e.call))
 
-pub Stands-moves : (old new : Kept) (h : UserHistory) (e : UserEntry) → e.caller < 64 → IsUserWellFormed e.call → Stands old h → Moves old new e → Stands new (h ++ e ∷ [])
+pub Stands-moves : (old new : UserShardState) (h : UserHistory) (e : UserEntry) → e.caller < 64 → IsUserWellFormed e.call → Stands old h → Moves old new e → Stands new (h ++ e ∷ [])
 Stands-moves old new h e below formed stands moves =
     let signs_after : new.users.signs ≡ sign_ins (h ++ e ∷ []) = moves.signs ∙ ap (λ xs. sign_ins_after xs e) stands.signs ∙ sym (sign_ins-push h e) in
     let watches_after : new.users.watches ≡ watches (h ++ e ∷ []) = moves.watches ∙ ap (λ xs. watches_after xs e) stands.watches ∙ sym (watches-push h e) in
@@ -44,7 +44,7 @@ Stands-moves old new h e below formed stands moves =
           ∙ sym (user_waiting-push h w e);
     }
 
-pub Stands-unchanged : (old new : Kept) (h : UserHistory) → Stands old h → IsUnchanged old new → Stands new h
+pub Stands-unchanged : (old new : UserShardState) (h : UserHistory) → Stands old h → IsUnchanged old new → Stands new h
 Stands-unchanged old new h stands same = record {
   legal = stands.legal;
   signs = same.signs ∙ stands.signs;
@@ -53,12 +53,12 @@ Stands-unchanged old new h stands same = record {
 }
 
 -- the entry of a call that the code has taken apart
-Moves-as : (old new : Kept) (w : ℕ) (call shown : UserCall) (a : UserAnswer) → call ≡ shown → Moves old new (entry w shown a) → Moves old new (entry w call a)
+Moves-as : (old new : UserShardState) (w : ℕ) (call shown : UserCall) (a : UserAnswer) → call ≡ shown → Moves old new (entry w shown a) → Moves old new (entry w call a)
 Moves-as old new w call shown a is moves =
     let P : UserCall → Type 0 = λ x. Moves old new (entry w x a) in subst P (sym is) moves
 
 -- a call that is answered moves the shard, and one that finds no memory leaves it as it was
-pub Stands-served : (old new : Kept) (h : UserHistory) (w : ℕ) (call shown : UserCall) (Gives : UserAnswer → Type 0) (r : Result UserAnswer Memory)
+pub Stands-served : (old new : UserShardState) (h : UserHistory) (w : ℕ) (call shown : UserCall) (Gives : UserAnswer → Type 0) (r : Result UserAnswer Memory)
     → call ≡ shown → w < 64 → IsUserWellFormed call → Stands old h → ((a : UserAnswer) → Gives a → Moves old new (entry w shown a))
     → MatchResult r Gives (λ _. IsUnchanged old new) → MatchResult r (λ a. Stands new (h ++ entry w call a ∷ [])) (λ _. Stands new h)
 Stands-served old new h w call shown Gives (Ok a) is below formed stands moves gives =
@@ -66,7 +66,7 @@ Stands-served old new h w call shown Gives (Ok a) is below formed stands moves g
 Stands-served old new h w call shown Gives (Err m) is below formed stands moves same = Stands-unchanged old new h stands same
 
 -- a call that finds memory always
-pub Stands-answered : (old new : Kept) (h : UserHistory) (w : ℕ) (call shown : UserCall) (a : UserAnswer)
+pub Stands-answered : (old new : UserShardState) (h : UserHistory) (w : ℕ) (call shown : UserCall) (a : UserAnswer)
     → call ≡ shown → w < 64 → IsUserWellFormed call → Stands old h → Moves old new (entry w shown a) → Stands new (h ++ entry w call a ∷ [])
 Stands-answered old new h w call shown a is below formed stands moves =
     Stands-moves old new h (entry w call a) below formed stands (Moves-as old new w call shown a is moves)

@@ -10,14 +10,14 @@ use Rattle.ch_base.specs.declared.frame.Frame.TheVariants as frame
 use Rattle.ch_history.specs.declared.rows.UserSocket.{UserSocket}
 use Rattle.ch_history.specs.Entries.{UserEntry}
 use Rattle.ch_history.specs.Deliveries.{delivery, for_owner}
-use Rattle.ch_history.specs.SignIns.{is_signed_in, is_watching, user_socket, signs_in, sign_settles, sign_ins_after, begins_watch, watch_settles, watches_after, is_of, has_any, users_of}
+use Rattle.ch_history.specs.SignIns.{is_signed_in, is_watching, user_socket, signs_in, sign_settles, sign_ins_after, begins_watch, watch_settles, watches_after, has_one_of, has_any, users_of}
 use Rattle.ch_history.specs.UserFrames.{tell_watchers}
 use Rattle.ch_history.proofs.Lists.{filter-none}
 use Rattle.ch_history.proofs.OpenRows.{opens_nothing, rows-same, none_settled, not_among}
 use Rattle.ch_history.proofs.SignIns.{socket_of, user_of}
 use Rattle.ch_outbox.specs.Outbox.{frames_of}
 use Rattle.ch_watch.specs.Watches.{without}
-use Rattle.ch_ushard.specs.Kept.{Kept, Changes, IsUnchanged, SignInGives, WatchGives, LostGives, TerminateGives, SendToGives, TakeGives}
+use Rattle.ch_ushard.specs.UserShardState.{UserShardState, Changes, IsUnchanged, SignInGives, WatchGives, LostGives, TerminateGives, SendToGives, TakeGives}
 use Rattle.ch_ushard.proofs.Simulation.{Moves}
 
 -- an entry that makes no sign-in and settles none
@@ -29,12 +29,12 @@ watches_stay : (xs : List UserSocket) (e : UserEntry) → ((r : UserSocket) → 
 watches_stay xs e none nothing = sym (rows-same begins_watch watch_settles xs e nothing (none_settled watch_settles xs e none))
 
 -- an entry that makes no frames, of a call that is no Take
-no_frames : (old new : Kept) (w : ℕ) → frames_of new.outbox w ≡ frames_of old.outbox w → frames_of new.outbox w ≡ frames_of old.outbox w ++ []
+no_frames : (old new : UserShardState) (w : ℕ) → frames_of new.outbox w ≡ frames_of old.outbox w → frames_of new.outbox w ≡ frames_of old.outbox w ++ []
 no_frames old new w same = same ∙ sym (append-nil (frames_of old.outbox w))
 
 -- SignIn
 
-signs_anew : (old new : Kept) (w socket : ℕ) (u : List ℕ) (at : ℕ) → is_of old.users.signs socket u ≡ false
+signs_anew : (old new : UserShardState) (w socket : ℕ) (u : List ℕ) (at : ℕ) → has_one_of old.users.signs socket u ≡ false
     → Changes old new (old.users.signs ++ user_socket w socket u ∷ []) old.users.watches (tell_watchers true old.users.signs old.users.watches u) → Moves old new (entry w (SignIn socket u at) SignedIn)
 signs_anew old new w socket u at off changes =
     let e : UserEntry = entry w (SignIn socket u at) SignedIn in
@@ -46,7 +46,7 @@ signs_anew old new w socket u at off changes =
       frames = changes.frames;
     }
 
-signs_again : (old new : Kept) (w socket : ℕ) (u : List ℕ) (at : ℕ) → is_of old.users.signs socket u ≡ true → IsUnchanged old new → Moves old new (entry w (SignIn socket u at) AlreadyIn)
+signs_again : (old new : UserShardState) (w socket : ℕ) (u : List ℕ) (at : ℕ) → has_one_of old.users.signs socket u ≡ true → IsUnchanged old new → Moves old new (entry w (SignIn socket u at) AlreadyIn)
 signs_again old new w socket u at there same =
     let e : UserEntry = entry w (SignIn socket u at) AlreadyIn in
     record {
@@ -56,7 +56,7 @@ signs_again old new w socket u at there same =
       frames = λ v. no_frames old new v (same.frames v);
     }
 
-signs_by : (old new : Kept) (w socket : ℕ) (u : List ℕ) (at : ℕ) (a : UserAnswer) (there : Bool) → is_of old.users.signs socket u ≡ there
+signs_by : (old new : UserShardState) (w socket : ℕ) (u : List ℕ) (at : ℕ) (a : UserAnswer) (there : Bool) → has_one_of old.users.signs socket u ≡ there
     → MatchBool there ((a ≡ AlreadyIn) × IsUnchanged old new) ((a ≡ SignedIn) × Changes old new (old.users.signs ++ user_socket w socket u ∷ []) old.users.watches (tell_watchers true old.users.signs old.users.watches u))
     → Moves old new (entry w (SignIn socket u at) a)
 signs_by old new w socket u at a true is gives =
@@ -64,12 +64,12 @@ signs_by old new w socket u at a true is gives =
 signs_by old new w socket u at a false is gives =
     let P : UserAnswer → Type 0 = λ x. Moves old new (entry w (SignIn socket u at) x) in subst P (sym gives.0) (signs_anew old new w socket u at is gives.1)
 
-pub signs : (old new : Kept) (w socket : ℕ) (u : List ℕ) (at : ℕ) (a : UserAnswer) → SignInGives old new w socket u a → Moves old new (entry w (SignIn socket u at) a)
-signs old new w socket u at a gives = signs_by old new w socket u at a (is_of old.users.signs socket u) refl gives
+pub signs : (old new : UserShardState) (w socket : ℕ) (u : List ℕ) (at : ℕ) (a : UserAnswer) → SignInGives old new w socket u a → Moves old new (entry w (SignIn socket u at) a)
+signs old new w socket u at a gives = signs_by old new w socket u at a (has_one_of old.users.signs socket u) refl gives
 
 -- Watch
 
-watches_anew : (old new : Kept) (w socket : ℕ) (u : List ℕ) (at : ℕ) → is_of old.users.watches socket u ≡ false
+watches_anew : (old new : UserShardState) (w socket : ℕ) (u : List ℕ) (at : ℕ) → has_one_of old.users.watches socket u ≡ false
     → Changes old new old.users.signs (old.users.watches ++ user_socket w socket u ∷ []) (cond (has_any old.users.signs u) (delivery w socket (frame.Watch true u) ∷ []) []) → Moves old new (entry w (Watch socket u at) Watching)
 watches_anew old new w socket u at off changes =
     let e : UserEntry = entry w (Watch socket u at) Watching in
@@ -81,7 +81,7 @@ watches_anew old new w socket u at off changes =
       frames = changes.frames;
     }
 
-watches_again : (old new : Kept) (w socket : ℕ) (u : List ℕ) (at : ℕ) → is_of old.users.watches socket u ≡ true → IsUnchanged old new → Moves old new (entry w (Watch socket u at) AlreadyWatching)
+watches_again : (old new : UserShardState) (w socket : ℕ) (u : List ℕ) (at : ℕ) → has_one_of old.users.watches socket u ≡ true → IsUnchanged old new → Moves old new (entry w (Watch socket u at) AlreadyWatching)
 watches_again old new w socket u at there same =
     let e : UserEntry = entry w (Watch socket u at) AlreadyWatching in
     record {
@@ -91,7 +91,7 @@ watches_again old new w socket u at there same =
       frames = λ v. no_frames old new v (same.frames v);
     }
 
-watches_by : (old new : Kept) (w socket : ℕ) (u : List ℕ) (at : ℕ) (a : UserAnswer) (there : Bool) → is_of old.users.watches socket u ≡ there
+watches_by : (old new : UserShardState) (w socket : ℕ) (u : List ℕ) (at : ℕ) (a : UserAnswer) (there : Bool) → has_one_of old.users.watches socket u ≡ there
     → MatchBool there ((a ≡ AlreadyWatching) × IsUnchanged old new) ((a ≡ Watching) × Changes old new old.users.signs (old.users.watches ++ user_socket w socket u ∷ []) (cond (has_any old.users.signs u) (delivery w socket (frame.Watch true u) ∷ []) []))
     → Moves old new (entry w (Watch socket u at) a)
 watches_by old new w socket u at a true is gives =
@@ -99,8 +99,8 @@ watches_by old new w socket u at a true is gives =
 watches_by old new w socket u at a false is gives =
     let P : UserAnswer → Type 0 = λ x. Moves old new (entry w (Watch socket u at) x) in subst P (sym gives.0) (watches_anew old new w socket u at is gives.1)
 
-pub watches : (old new : Kept) (w socket : ℕ) (u : List ℕ) (at : ℕ) (a : UserAnswer) → WatchGives old new w socket u a → Moves old new (entry w (Watch socket u at) a)
-watches old new w socket u at a gives = watches_by old new w socket u at a (is_of old.users.watches socket u) refl gives
+pub watches : (old new : UserShardState) (w socket : ℕ) (u : List ℕ) (at : ℕ) (a : UserAnswer) → WatchGives old new w socket u a → Moves old new (entry w (Watch socket u at) a)
+watches old new w socket u at a gives = watches_by old new w socket u at a (has_one_of old.users.watches socket u) refl gives
 
 -- Lost
 
@@ -113,7 +113,7 @@ less_watches : (xs : List UserSocket) (w socket at : ℕ) (a : UserAnswer) → w
 less_watches xs w socket at a =
     sym (append-nil (without xs socket)) ∙ ap (λ o. without xs socket ++ option_to_list o) (sym (opens_nothing (is_watching a)))
 
-pub loses : (old new : Kept) (w socket at : ℕ) (a : UserAnswer) → LostGives old new socket a → Moves old new (entry w (Lost socket at) a)
+pub loses : (old new : UserShardState) (w socket at : ℕ) (a : UserAnswer) → LostGives old new socket a → Moves old new (entry w (Lost socket at) a)
 loses old new w socket at a gives = record {
   answered = gives.0;
   signs = gives.1.signs ∙ less_signs old.users.signs w socket at a;
@@ -124,7 +124,7 @@ loses old new w socket at a gives = record {
 
 -- Terminate and SendTo
 
-pub terminates : (old new : Kept) (w : ℕ) (u : List ℕ) (at : ℕ) (a : UserAnswer) → TerminateGives old new u a → Moves old new (entry w (Terminate u at) a)
+pub terminates : (old new : UserShardState) (w : ℕ) (u : List ℕ) (at : ℕ) (a : UserAnswer) → TerminateGives old new u a → Moves old new (entry w (Terminate u at) a)
 terminates old new w u at a gives =
     let e : UserEntry = entry w (Terminate u at) a in
     record {
@@ -134,7 +134,7 @@ terminates old new w u at a gives =
       frames = gives.1.frames;
     }
 
-pub sends : (old new : Kept) (w : ℕ) (u event body : List ℕ) (at : ℕ) (a : UserAnswer) → SendToGives old new u event body a → Moves old new (entry w (SendTo u event body at) a)
+pub sends : (old new : UserShardState) (w : ℕ) (u event body : List ℕ) (at : ℕ) (a : UserAnswer) → SendToGives old new u event body a → Moves old new (entry w (SendTo u event body at) a)
 sends old new w u event body at a gives =
     let e : UserEntry = entry w (SendTo u event body at) a in
     record {
@@ -146,7 +146,7 @@ sends old new w u event body at a gives =
 
 -- Take
 
-pub takes_frames : (old new : Kept) (w : ℕ) (a : UserAnswer) → TakeGives old new w a → Moves old new (entry w Take a)
+pub takes_frames : (old new : UserShardState) (w : ℕ) (a : UserAnswer) → TakeGives old new w a → Moves old new (entry w Take a)
 takes_frames old new w a gives =
     let e : UserEntry = entry w Take a in
     record {

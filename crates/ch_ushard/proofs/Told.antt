@@ -14,7 +14,7 @@ use Rattle.ch_history.specs.SignIns.{user_socket, of_user, has_any}
 use Rattle.ch_history.specs.UserFrames.{to_socket, tell_watchers}
 use Rattle.ch_history.proofs.Lists.{filter-swap}
 use Rattle.ch_watch.specs.Watches.{SignsAndWatches, without}
-use Rattle.ch_ushard.specs.Made.{HasOwners, told, told_one, farewell}
+use Rattle.ch_ushard.specs.Effects.{HasOwners, told, told_one, farewell}
 
 -- One more
 

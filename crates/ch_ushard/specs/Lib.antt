@@ -1,5 +1,5 @@
-pub mod Made
-pub mod Kept
+pub mod Effects
+pub mod UserShardState
 pub mod Stands
 pub mod OpenSigns
 pub mod Seats

@@ -5,10 +5,10 @@ use Rattle.ch_history.specs.SignIns.{sign_ins, watches}
 use Rattle.ch_history.specs.UserFrames.{user_waiting}
 use Rattle.ch_history.specs.UserLegal.{IsUserLegal}
 use Rattle.ch_outbox.specs.Outbox.{frames_of}
-use Rattle.ch_ushard.specs.Kept.{Kept}
+use Rattle.ch_ushard.specs.UserShardState.{UserShardState}
 
 -- the history is legal, and what the shard keeps is what the history says
-pub record Stands (shard : Kept) (h : UserHistory) : Type 0 where
+pub record Stands (shard : UserShardState) (h : UserHistory) : Type 0 where
   pub legal : IsUserLegal h
   pub signs : shard.users.signs ≡ sign_ins h
   pub watches : shard.users.watches ≡ watches h

@@ -7,7 +7,7 @@
 #![tactic(auto)]
 
 mod deliveries;
-mod made;
+mod effects;
 mod parting;
 mod seat;
 mod sending;

@@ -1,9 +1,9 @@
 ghost use Rattle.std.specs.Prelude.{◌≡◌, ◌++◌, IfOk, OnOk, MatchResult, flat_map};
 ghost use Rattle.ch_history.specs.SignIns.{users_of};
-ghost use Rattle.ch_ushard.specs.Kept.{IsUnchanged, LostGives};
-ghost use Rattle.ch_ushard.specs.Made.{HasOwners, farewell};
+ghost use Rattle.ch_ushard.specs.UserShardState.{IsUnchanged, LostGives};
+ghost use Rattle.ch_ushard.specs.Effects.{HasOwners, farewell};
 
-use crate::made::Made;
+use crate::effects::Effects;
 use crate::shard::UserShard;
 use crate::telling::{change, tell};
 use ch_base::{Memory, Text, UserAnswer};
@@ -23,11 +23,11 @@ impl UserShard {
 }
 
 /// What the loss of the socket makes: the ends of its sign-ins, ascending by user.
-fn farewells(press: &mut Press, watches: &Watches, socket: u64) -> Result<Made, Memory>
+fn farewells(press: &mut Press, watches: &Watches, socket: u64) -> Result<Effects, Memory>
     requires { HasOwners watches.now }
     ensures { IfOk result (λ made. made ≡ flat_map (farewell watches.now socket) (users_of watches.now.signs socket)) }
 {
-    let mut made = Made::new(press.alloc());
+    let mut made = Effects::new(press.alloc());
     for i in 0..watches.users_of(socket) {
         let user = watches.user_of(socket, i);
         part(press, watches, user, socket, &mut made)?;
@@ -42,7 +42,7 @@ fn part(
     watches: &Watches,
     user: &Text,
     socket: u64,
-    made: &mut Made,
+    made: &mut Effects,
 ) -> Result<(), Memory>
     requires { HasOwners watches.now }
     ensures { OnOk result (made.new ≡ made.old ++ farewell watches.now socket user.now) }

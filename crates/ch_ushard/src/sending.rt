@@ -3,12 +3,13 @@ ghost use Rattle.ch_base.specs.Printed.{is_opened};
 ghost use Rattle.ch_base.specs.declared.frame.Frame.TheVariants.{Event};
 ghost use Rattle.ch_history.specs.SignIns.{of_user};
 ghost use Rattle.ch_history.specs.UserFrames.{to_socket, user_channel};
-ghost use Rattle.ch_ushard.specs.Kept.{IsUnchanged, TerminateGives, SendToGives, TakeGives};
-ghost use Rattle.ch_ushard.specs.Made.{HasOwners};
+ghost use Rattle.ch_ushard.specs.UserShardState.{IsUnchanged, TerminateGives, SendToGives, TakeGives};
+ghost use Rattle.ch_ushard.specs.Effects.{HasOwners};
 
-use crate::made::Made;
+use crate::effects::Effects;
 use crate::shard::UserShard;
 use ch_base::{Frame, Memory, Text, UserAnswer};
+use ch_names::own_channel;
 use ch_print::Press;
 use ch_watch::Watches;
 use std::alloc::Global;
@@ -54,12 +55,12 @@ fn for_sockets(
     watches: &Watches,
     user: &Text,
     frame: Frame,
-) -> Result<Made, Memory>
+) -> Result<Effects, Memory>
     requires owners { HasOwners watches.now }
     requires timeless { is_opened frame ≡ false }
     ensures { IfOk result (λ made. made ≡ map (to_socket frame) (of_user watches.now.signs user.now)) }
 {
-    let mut made = Made::new(press.alloc());
+    let mut made = Effects::new(press.alloc());
     let count = watches.sockets(user);
     if count == 0 {
         return Ok(made);
@@ -76,18 +77,9 @@ fn event_frame(alloc: Global, user: &Text, event: &Text, body: &Text) -> Result<
     ensures { IfOk result (λ f. f ≡ Event (user_channel user.now) event.now body.now None) }
 {
     Ok(Frame::Event {
-        channel: user_channel(alloc, user)?,
+        channel: own_channel(alloc, user.as_str())?,
         event: event.copy(alloc)?,
         body: body.copy(alloc)?,
         user_id: None,
     })
-}
-
-/// The channel on which the user's own events come.
-fn user_channel(alloc: Global, user: &Text) -> Result<Text, Memory>
-    ensures { IfOk result (λ c. c ≡ user_channel user.now) }
-{
-    let mut channel = Text::of(alloc, "#server-to-user-")?;
-    channel.push_str(user.as_str())?;
-    Ok(channel)
 }

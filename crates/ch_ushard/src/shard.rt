@@ -19,10 +19,10 @@ pub struct UserShard {
 }
 
 impl Model for UserShard {
-    ghost use Rattle.ch_ushard.specs.Kept.{Kept};
-    ghost use Rattle.ch_ushard.specs.Made.{HasOwners};
+    ghost use Rattle.ch_ushard.specs.UserShardState.{UserShardState};
+    ghost use Rattle.ch_ushard.specs.Effects.{HasOwners};
 
-    ghost Value = { Kept };
+    ghost Value = { UserShardState };
 
     ghost view = { λ s. record { users = s.watches; outbox = s.outbox } };
 

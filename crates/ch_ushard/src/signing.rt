@@ -2,9 +2,9 @@ ghost use Rattle.std.specs.Prelude.{◌≡◌, ◌<◌, [], ◌∷◌, true, IfO
 ghost use Rattle.ch_base.specs.declared.frame.Frame.TheVariants.{Watch};
 ghost use Rattle.ch_history.specs.Deliveries.{delivery};
 ghost use Rattle.ch_history.specs.SignIns.{has_any};
-ghost use Rattle.ch_ushard.specs.Kept.{IsUnchanged, SignInGives, WatchGives};
+ghost use Rattle.ch_ushard.specs.UserShardState.{IsUnchanged, SignInGives, WatchGives};
 
-use crate::made::Made;
+use crate::effects::Effects;
 use crate::shard::UserShard;
 use crate::telling::{change, greeting};
 use ch_base::{Memory, Text, UserAnswer};
@@ -61,11 +61,11 @@ fn first_word(
     watches: &Watches,
     watcher: Holder,
     user: &Text,
-) -> Result<Made, Memory>
+) -> Result<Effects, Memory>
     requires { watcher.owner < 64 }
     ensures { IfOk result (λ made. made ≡ (if has_any watches.now.signs user.now then delivery watcher.owner watcher.socket (Watch true user.now) ∷ [] else [])) }
 {
-    let mut made = Made::new(press.alloc());
+    let mut made = Effects::new(press.alloc());
     if watches.is_online(user) {
         let printed = change(press, user, true)?;
         made.push(watcher, &printed)?;

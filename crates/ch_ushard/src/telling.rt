@@ -4,20 +4,20 @@ ghost use Rattle.ch_base.specs.declared.frame.Frame.TheVariants.{Watch};
 ghost use Rattle.ch_history.specs.Frames.{is_other};
 ghost use Rattle.ch_history.specs.SignIns.{of_user};
 ghost use Rattle.ch_history.specs.UserFrames.{tell_watchers};
-ghost use Rattle.ch_ushard.specs.Made.{HasOwners, told, told_one};
+ghost use Rattle.ch_ushard.specs.Effects.{HasOwners, told, told_one};
 
-use crate::made::Made;
+use crate::effects::Effects;
 use ch_base::{Frame, Memory, Printed, Text};
 use ch_print::Press;
 use ch_watch::{Holder, Watches};
 use std::sync::Arc;
 
 /// What tells the watchers of the user that it is online, where no socket is signed in as the user yet.
-pub fn greeting(press: &mut Press, watches: &Watches, user: &Text) -> Result<Made, Memory>
+pub fn greeting(press: &mut Press, watches: &Watches, user: &Text) -> Result<Effects, Memory>
     requires { HasOwners watches.now }
     ensures { IfOk result (λ made. made ≡ tell_watchers true watches.now.signs watches.now.watches user.now) }
 {
-    let mut made = Made::new(press.alloc());
+    let mut made = Effects::new(press.alloc());
     if watches.is_online(user) || watches.watchers(user) == 0 {
         return Ok(made);
     }
@@ -40,7 +40,7 @@ pub fn tell(
     user: &Text,
     printed: &Arc<Printed>,
     except: Option<u64>,
-    made: &mut Made,
+    made: &mut Effects,
 ) -> Result<(), Memory>
     requires { HasOwners watches.now }
     ensures { OnOk result (made.new ≡ made.old ++ told (arc_value printed.now) except (of_user watches.now.watches user.now)) }
@@ -56,7 +56,7 @@ fn tell_one(
     watcher: Holder,
     printed: &Arc<Printed>,
     except: Option<u64>,
-    made: &mut Made,
+    made: &mut Effects,
 ) -> Result<(), Memory>
     requires { watcher.owner < 64 }
     ensures { OnOk result (made.new ≡ made.old ++ told_one (arc_value printed.now) except watcher.owner watcher.socket) }

@@ -1,7 +1,7 @@
 -- The sign-ins and the watches that last, the oldest first, and what each call leaves of them.
 use Rattle.std.specs.Prelude.{ℕ, not, ◌==◌, List, [], ◌∷◌, ◌++◌, filter, if◌then◌else◌}
 use Rattle.ch_history.specs.declared.rows.UserSocket.{UserSocket}
-use Rattle.ch_history.specs.SignIns.{is_of}
+use Rattle.ch_history.specs.SignIns.{has_one_of}
 
 -- the sign-ins, and the watches
 pub record SignsAndWatches : Type 0 where
@@ -10,7 +10,7 @@ pub record SignsAndWatches : Type 0 where
 
 -- with this one at the end, unless its socket has one of its user
 abbrev pub added : List UserSocket → UserSocket → List UserSocket
-added xs r = if is_of xs r.socket r.user then xs else xs ++ r ∷ []
+added xs r = if has_one_of xs r.socket r.user then xs else xs ++ r ∷ []
 
 -- without the socket's
 abbrev pub without : List UserSocket → ℕ → List UserSocket

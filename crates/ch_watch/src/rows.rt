@@ -1,6 +1,6 @@
 ghost use Rattle.std.specs.Prelude.{◌≡◌, ◌==◌, not, IfOk};
 ghost use Rattle.std.specs.List.{list_any};
-ghost use Rattle.ch_history.specs.SignIns.{user_socket, of_user, is_of, has_any};
+ghost use Rattle.ch_history.specs.SignIns.{user_socket, of_user, has_one_of, has_any};
 
 use ch_base::{Memory, Text};
 use ch_history::UserSocket;
@@ -9,7 +9,7 @@ use std::alloc::Global;
 
 /// Whether the socket has a row of the user.
 pub fn is_of(index: &Index<UserSocket>, socket: u64, user: &Text) -> bool
-    ensures { result ≡ is_of index.now socket user.now }
+    ensures { result ≡ has_one_of index.now socket user.now }
 {
     index.has(socket, user)
 }

@@ -1,5 +1,5 @@
 ghost use Rattle.std.specs.Prelude.{◌≡◌, ◌<◌, [], length, not, IfOk, OnOk, OnErr, IsTrue, Ok, Some, false, slice_get};
-ghost use Rattle.ch_history.specs.SignIns.{user_socket, of_user, is_of, users_of, has_any};
+ghost use Rattle.ch_history.specs.SignIns.{user_socket, of_user, has_one_of, users_of, has_any};
 ghost use Rattle.ch_watch.specs.Watches.{added, without};
 
 use crate::holder::Holder;
@@ -40,10 +40,10 @@ impl UserRows {
     /// Adds the socket with its owner to those of the user, and answers whether it is new there. One
     /// that is there stays as it was, and takes no memory. Nothing changes after want of memory.
     pub fn add(&mut self, socket: u64, user: &Text, owner: u64) -> Result<bool, Memory>
-        ensures answer { IfOk result (λ new. new ≡ not (is_of self.old socket user.now)) }
+        ensures answer { IfOk result (λ new. new ≡ not (has_one_of self.old socket user.now)) }
         ensures ok { OnOk result (self.new ≡ added self.old (user_socket owner socket user.now)) }
         ensures err { OnErr result (self.new ≡ self.old) }
-        ensures already { IsTrue (is_of self.old socket user.now) → result ≡ Ok false }
+        ensures already { IsTrue (has_one_of self.old socket user.now) → result ≡ Ok false }
     {
         if rows::is_of(&self.index, socket, user) {
             return Ok(false);
@@ -63,7 +63,7 @@ impl UserRows {
 
     /// Whether the socket is one of the user's.
     pub fn is_of(&self, socket: u64, user: &Text) -> bool
-        ensures { result ≡ is_of self.now socket user.now }
+        ensures { result ≡ has_one_of self.now socket user.now }
     {
         rows::is_of(&self.index, socket, user)
     }

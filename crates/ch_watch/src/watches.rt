@@ -1,5 +1,5 @@
 ghost use Rattle.std.specs.Prelude.{◌≡◌, ◌<◌, [], length, not, IfOk, OnOk, OnErr, IsTrue, Ok, Some, false, slice_get};
-ghost use Rattle.ch_history.specs.SignIns.{user_socket, of_user, is_of, users_of, has_any};
+ghost use Rattle.ch_history.specs.SignIns.{user_socket, of_user, has_one_of, users_of, has_any};
 ghost use Rattle.ch_watch.specs.Watches.{added, without};
 
 use crate::holder::Holder;
@@ -40,11 +40,11 @@ impl Watches {
     /// A socket that is signed in as the user stays so with its first owner, and takes no memory.
     /// Nothing changes after want of memory.
     pub fn sign_in(&mut self, socket: u64, user: &Text, owner: u64) -> Result<bool, Memory>
-        ensures answer { IfOk result (λ new. new ≡ not (is_of self.old.signs socket user.now)) }
+        ensures answer { IfOk result (λ new. new ≡ not (has_one_of self.old.signs socket user.now)) }
         ensures ok { OnOk result (self.new.signs ≡ added self.old.signs (user_socket owner socket user.now)) }
         ensures err { OnErr result (self.new.signs ≡ self.old.signs) }
         ensures watches { self.new.watches ≡ self.old.watches }
-        ensures already { IsTrue (is_of self.old.signs socket user.now) → result ≡ Ok false }
+        ensures already { IsTrue (has_one_of self.old.signs socket user.now) → result ≡ Ok false }
     {
         self.signs.add(socket, user, owner)
     }
@@ -54,11 +54,11 @@ impl Watches {
     /// A socket that watches the user does so on with its first owner, and takes no memory. Nothing
     /// changes after want of memory.
     pub fn watch(&mut self, socket: u64, watched: &Text, owner: u64) -> Result<bool, Memory>
-        ensures answer { IfOk result (λ new. new ≡ not (is_of self.old.watches socket watched.now)) }
+        ensures answer { IfOk result (λ new. new ≡ not (has_one_of self.old.watches socket watched.now)) }
         ensures ok { OnOk result (self.new.watches ≡ added self.old.watches (user_socket owner socket watched.now)) }
         ensures err { OnErr result (self.new.watches ≡ self.old.watches) }
         ensures signs { self.new.signs ≡ self.old.signs }
-        ensures already { IsTrue (is_of self.old.watches socket watched.now) → result ≡ Ok false }
+        ensures already { IsTrue (has_one_of self.old.watches socket watched.now) → result ≡ Ok false }
     {
         self.watches.add(socket, watched, owner)
     }
@@ -78,14 +78,14 @@ impl Watches {
 
     /// Whether the socket is signed in as the user.
     pub fn is_signed_in(&self, socket: u64, user: &Text) -> bool
-        ensures { result ≡ is_of self.now.signs socket user.now }
+        ensures { result ≡ has_one_of self.now.signs socket user.now }
     {
         self.signs.is_of(socket, user)
     }
 
     /// Whether the socket watches the user.
     pub fn is_watching(&self, socket: u64, user: &Text) -> bool
-        ensures { result ≡ is_of self.now.watches socket user.now }
+        ensures { result ≡ has_one_of self.now.watches socket user.now }
     {
         self.watches.is_of(socket, user)
     }

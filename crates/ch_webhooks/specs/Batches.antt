@@ -9,7 +9,7 @@ use Rattle.ch_webhooks.specs.declared.batch.Batch.{Batch}
 use Rattle.ch_webhooks.specs.declared.batch.Sender.{Sender}
 use Rattle.ch_webhooks.specs.Events.{body_text}
 
--- the piece k of a list, counted from 0: 50 of its elements; the last piece may have fewer
+-- the piece k of a list, counted from 0: `BATCH_EVENTS` of its elements; the last piece may have fewer
 abbrev pub piece : {A : Type 0} → List A → ℕ → List A
 piece xs k = take BATCH_EVENTS (drop (k * BATCH_EVENTS) xs)
 

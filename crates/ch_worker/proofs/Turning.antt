@@ -4,6 +4,7 @@ use Rattle.std.specs.Prelude.{Some}
 use Rattle.std.specs.List.{flat_map}
 use Rattle.std.specs.Option.{option_to_list}
 use Rattle.ch_base.specs.declared.frame.FrameFor.{FrameFor}
+use Rattle.ch_clients.specs.declared.limits.TheConstants.{MOST_CLIENTS}
 use Rattle.ch_clients.specs.Answers.{stronger, strongest}
 use Rattle.ch_clients.specs.Clients.{Client, ClientsView, Speech, Http, WebSocket, handed_to, all_handed, has_room, newcomer, placed}
 use Rattle.ch_clients.specs.InTurn.{InTurn}
@@ -142,7 +143,7 @@ pub room_is : (c : Course) (w : WorkerView) (taken lost : ClientsView)
     → has_room lost ≡ room_left c w
 room_is c w taken lost handed losing left =
     ap has_room (lost_is c w taken lost handed losing left)
-    ∙ ap (λ n. ltb (n + length (still_leaving c.lefts)) 256) (length_all_handed w.clients.connected (frames_of c.takes))
+    ∙ ap (λ n. ltb (n + length (still_leaving c.lefts)) MOST_CLIENTS) (length_all_handed w.clients.connected (frames_of c.takes))
 
 -- ---- a newcomer
 

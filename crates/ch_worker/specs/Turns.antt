@@ -3,7 +3,8 @@ use Rattle.std.specs.Prelude.{◌≡◌, ◌+◌, ℕ, Bool, nat_lt, List, ◌�
 use Rattle.std.specs.List.{flat_map}
 use Rattle.std.specs.Option.{option_map, option_to_list}
 use Rattle.ch_clients.specs.Answers.{strongest}
-use Rattle.ch_clients.specs.Clients.{Client, AreAscending, all_handed, most_clients, newcomer, placed}
+use Rattle.ch_clients.specs.Clients.{Client, AreAscending, all_handed, newcomer, placed}
+use Rattle.ch_clients.specs.declared.limits.TheConstants.{MOST_CLIENTS}
 use Rattle.ch_clients.specs.InTurn.{InTurn}
 use Rattle.ch_clients.specs.Leaving.{Left, IsLeft, still_leaving, part_of_left}
 use Rattle.ch_clients.specs.Serving.{Setting, Turned, IsServed, staying, leavers, setting_of}
@@ -53,7 +54,7 @@ served c w = with_newcomer c.newcomer (after_frames c w)
 
 -- whether there is room for one more client, with those who still leave
 abbrev pub room_left : Course → WorkerView → Bool
-room_left c w = nat_lt (length w.clients.connected + length (still_leaving c.lefts)) most_clients
+room_left c w = nat_lt (length w.clients.connected + length (still_leaving c.lefts)) MOST_CLIENTS
 
 -- ---- the answer
 

@@ -17,7 +17,7 @@ use std::alloc::Global;
 use std::marker::Model;
 use std::sync::Wait;
 
-/// A worker: its clients, and how far it is. A moment is a number of milliseconds, at most 10^15.
+/// A worker: its clients, and how far it is. A moment is a number of milliseconds, at most `LATEST_MOMENT`.
 #[derive(Drop)]
 pub struct Worker<L: Link, G> {
     clients: Clients<L>,
@@ -35,7 +35,7 @@ impl<L: Link, G> Model for Worker<L, G> {
 }
 
 impl<L: Link, G: Drop> Worker<L, G> {
-    /// A worker with room for 256 clients, on a server that started at the second `start`.
+    /// A worker with room for `MOST_CLIENTS` clients, on a server that started at the second `start`.
     pub fn new(alloc: Global, config: &Config, start: u64, gate: G) -> Result<Worker<L, G>, Memory>
         requires { IsConfig config.now }
         ensures { IfOk result (λ w. w ≡ new_worker config.now start) }

@@ -1,9 +1,10 @@
-ghost use Rattle.std.specs.Prelude.{◌≤◌, ◌^◌};
+ghost use Rattle.std.specs.Prelude.{◌≤◌};
+ghost use Rattle.ch_base.specs.declared.limits.TheConstants.{LATEST_MOMENT};
 
 use crate::bell::{Bell, PollWaker};
 use crate::ready::Ready;
 use crate::tcp_link::TcpLink;
-use ch_base::Memory;
+use ch_base::{LATEST_MOMENT, Memory};
 use ch_edge::{Park, Pause};
 use ch_io::Clock;
 use mio::{Events, Interest, Poll, Token};
@@ -18,9 +19,6 @@ const EVENTS: usize = 256;
 
 /// The token of the bell. A socket's token is its place.
 const BELL: Token = Token(usize::MAX);
-
-/// The latest moment that the clock gives, in milliseconds.
-const LATEST: u64 = 1_000_000_000_000_000;
 
 /// How long a thread rests at most, by what the turn before it was like.
 #[derive(Clone, Copy, Debug)]
@@ -46,7 +44,7 @@ pub struct Poller<R: time::Clock + Drop> {
     places: Vec<Arc<Ready, Global>>,
     // Some socket couldn't be taken on.
     is_blind: bool,
-    ghost moment: { last ≤ 10 ^ 15 },
+    ghost moment: { last ≤ LATEST_MOMENT },
 }
 
 impl<R: time::Clock + Drop> Poller<R> {
@@ -139,8 +137,8 @@ impl<R: time::Clock + Drop> Clock for Poller<R> {
         if let Ok(time) = SystemTime::now(&self.rt) {
             if let Ok(since) = time.duration_since(UNIX_EPOCH) {
                 self.last = u64::try_from(since.as_millis())
-                    .unwrap_or(LATEST)
-                    .min(LATEST);
+                    .unwrap_or(LATEST_MOMENT)
+                    .min(LATEST_MOMENT);
             }
         }
         self.last

@@ -3,7 +3,7 @@ ghost use Rattle.ch_base.specs.declared.user.UserAnswer.{UserAnswer};
 ghost use Rattle.ch_config.specs.Config.{IsConfig};
 ghost use Rattle.ch_history.specs.Limits.{IsMoment};
 ghost use Rattle.ch_protocol.specs.declared.ask.Made.{Made};
-ghost use Rattle.ch_session.specs.Kept.{IsOver};
+ghost use Rattle.ch_session.specs.Kept.{HasShardsOf};
 ghost use Rattle.ch_protocol.specs.Asks.{ComesOf};
 ghost use Rattle.ch_session.specs.Waits.{Awaits};
 ghost use Rattle.ch_session.specs.declared.waiting.Waiting.{Waiting};
@@ -29,7 +29,7 @@ fn example_app(alloc: Global) -> Result<Config, Fail>
 fn example_socket(alloc: Global, config: &Config) -> Result<Session, Fail>
     requires { IsConfig config.now }
     ensures idle { IfOk result (λ s. s.waits ≡ Waiting.Nothing) }
-    ensures over { IfOk result (λ s. IsOver s config.now) }
+    ensures over { IfOk result (λ s. HasShardsOf s config.now) }
 {
     let target = "/app/278d425bdf160c739803?protocol=7";
     match Session::start(alloc, config, 1234, 1234, target, 0) {

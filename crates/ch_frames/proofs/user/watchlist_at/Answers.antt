@@ -2,6 +2,7 @@ use Rattle.std.proofs.Common.{◌≤◌, ◌∙◌, length, ap, subst, inl, inr,
 use Rattle.ch_json.specs.NodeOf.{IsNode}
 use Rattle.ch_json.specs.Parts.{items_of}
 use Rattle.ch_json.proofs.Forms.{array_from_form}
+use Rattle.ch_protocol.specs.declared.limits.TheConstants.{LONGEST_WATCHLIST}
 use Rattle.ch_protocol.specs.UserDataText.{AreIds, first_places}
 use Rattle.ch_members.proofs.Gives.{gives_some, gives_none}
 use Rattle.ch_members.proofs.MembersOfName.{null_from_form}
@@ -38,7 +39,7 @@ returns-in_ok-watchlist-in-List c = λ v node.
     let k = array_from_form v _ (c.in-List.ensures text v node) in
     let at = subst (IsNode text c.args.doc.now c.args.node) k.2 node in
     let ids = gives_some (AreIds text (items_of k.0)) c.in_ok-ids-in-List.field-0 c.in-Some.ids (c.in_ok-ids-in-List.ensures k.0 (record { span = k.1; node = at; count = k.3 })) c.in-Some.is in
-    let few : length (items_of k.0) ≤ 100 = omega (arith, k.3, c.if-count-gt-LONGEST_WATCHLIST.false) in
+    let few : length (items_of k.0) ≤ LONGEST_WATCHLIST = omega (arith, k.3, c.if-count-gt-LONGEST_WATCHLIST.false) in
     inr (k.0, k.1, k.2, record { few = few; ids = c.in-Some.ids; are = ids; once = c.in_ok-watchlist-in-List.ensures ∙ ap first_places c.as_slice.ensures })
 
 pub returns-in_default : goal.returns-in_default

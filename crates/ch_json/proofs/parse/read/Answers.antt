@@ -1,6 +1,6 @@
 use Rattle.std.proofs.Common.{arith, refl, sym, ap, subst, ◌∙◌, ◌≡◌, ◌<◌, ◌≤◌, length, [], get_or, Result, Ok, Err}
 use Rattle.std.proofs.lemmas.Result.{err_from_is_err_and}
-use Rattle.ch_base.specs.JsonText.{max_depth}
+use Rattle.ch_base.specs.declared.limits.TheConstants.{MAX_DEPTH}
 use Rattle.ch_json.specs.Machine as spec
 use Rattle.ch_json.specs.Machine.{run, step}
 use Rattle.ch_json.specs.Document.{Document, Shows}
@@ -13,7 +13,7 @@ use Rattle.ch_json.proofs.parse.read.Goals as goal
 
 pub loop-i-init : goal.loop-i-init
 unfolding run
-loop-i-init c = (spec.value, max_depth, [], refl, record { mode = refl; brackets = record { frames = c.new-reader.ensures.frames; count = refl } })
+loop-i-init c = (spec.value, MAX_DEPTH, [], refl, record { mode = refl; brackets = record { frames = c.new-reader.ensures.frames; count = refl } })
 
 pub loop-i-preserved : goal.loop-i-preserved
 loop-i-preserved c =
@@ -26,7 +26,7 @@ loop-i-preserved c =
       k.0,
       k.1,
       k.2,
-      read_more max_depth text i inside ∙ ap (λ o. next o i (get_or text i 0)) inv.3 ∙ ap (λ l. step inv.0 inv.1 inv.2 i (get_or l i 0)) (sym same) ∙ k.3,
+      read_more MAX_DEPTH text i inside ∙ ap (λ o. next o i (get_or text i 0)) inv.3 ∙ ap (λ l. step inv.0 inv.1 inv.2 i (get_or l i 0)) (sym same) ∙ k.3,
       k.4,
     )
 

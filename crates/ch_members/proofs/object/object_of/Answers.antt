@@ -1,6 +1,7 @@
 use Rattle.std.proofs.Common.{◌≡◌, true, subst}
 use Rattle.ch_base.specs.JsonTree.{object as object_form}
-use Rattle.ch_base.specs.JsonText.{Spells, max_depth}
+use Rattle.ch_base.specs.JsonText.{Spells}
+use Rattle.ch_base.specs.declared.limits.TheConstants.{MAX_DEPTH}
 use Rattle.ch_json.specs.NodeOf.{HasTree}
 use Rattle.ch_json.proofs.Fronts.{one_tree}
 use Rattle.ch_members.specs.Readings.{ReadsText}
@@ -34,6 +35,6 @@ pub returns-else-branch : goal.returns-else-branch
 returns-else-branch c = λ ms object distinct.
     let text = c.args.text.now in
     let t = subst (ReadsText text) c.in-Some.is c.in_ok-document_of.ensures in
-    let same = one_tree max_depth text t.0 (object_form ms object.0) t.1 object.1 in
+    let same = one_tree MAX_DEPTH text t.0 (object_form ms object.0) t.1 object.1 in
     let plain : c.in_ok-is_plain_object-in-Some.field-0 ≡ true = (c.in_ok-is_plain_object-in-Some.ensures t.0 (c.top-top.ensures text t.0 t.1 t.2)).1 (ms, object.0, same, distinct) in
     absurd (cc (plain, c.if-branch.false))

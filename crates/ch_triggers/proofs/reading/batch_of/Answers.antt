@@ -1,5 +1,5 @@
 use Rattle.ch_base.specs.JsonTree.{object as object_form}
-use Rattle.ch_base.specs.JsonText.{max_depth}
+use Rattle.ch_base.specs.declared.limits.TheConstants.{MAX_DEPTH}
 use Rattle.ch_json.proofs.Fronts.{one_tree}
 use Rattle.ch_members.specs.Readings.{Gives}
 use Rattle.ch_members.proofs.Gives.{on_ok}
@@ -35,4 +35,4 @@ returns-in-None c = λ t k.
     let text = c.args.text.now in
     let v = c.requires.0 in
     let node = c.top.ensures text v c.requires.1 c.requires.2 in
-    c.in-None.ensures text v node k.1.0 k.1.1.0 (one_tree max_depth text v (object_form k.1.0 k.1.1.0) c.requires.1 k.1.1.1)
+    c.in-None.ensures text v node k.1.0 k.1.1.0 (one_tree MAX_DEPTH text v (object_form k.1.0 k.1.1.0) c.requires.1 k.1.1.1)

@@ -1,6 +1,6 @@
 use Rattle.std.proofs.Common.{◌∙◌, ◌++◌, ap, sym}
 use Rattle.ch_history.specs.SignIns.{users_of}
-use Rattle.ch_ushard.specs.Made.{farewell}
+use Rattle.ch_ushard.specs.Effects.{farewell}
 use Rattle.ch_ushard.proofs.Told.{flat_map_next}
 use Rattle.ch_ushard.proofs.parting.farewells.Goals as goal
 

@@ -3,7 +3,7 @@ use Rattle.std.proofs.lemmas.List.{nil_from_length}
 use Rattle.std.proofs.lemmas.Result.{on_ok_weaker}
 use Rattle.ch_history.specs.SignIns.{of_user, has_any}
 use Rattle.ch_watch.specs.Watches.{without}
-use Rattle.ch_ushard.specs.Made.{farewell, told}
+use Rattle.ch_ushard.specs.Effects.{farewell, told}
 use Rattle.ch_ushard.proofs.Told.{tells_others, tells_none, tells_nobody, unwatched_still}
 use Rattle.ch_ushard.proofs.parting.part.Goals as goal
 use Rattle.ch_ushard.proofs.parting.part.Goals.{then-has_other-via-then-has_other, then-has_other-via-else-has_other+then-watchers-eq0}

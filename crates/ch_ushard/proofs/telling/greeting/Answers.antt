@@ -2,7 +2,7 @@ use Rattle.std.proofs.Common.{◌≡◌, ◌∙◌, ◌++◌, [], None, true, fa
 use Rattle.std.proofs.lemmas.List.{nil_from_length}
 use Rattle.ch_history.specs.SignIns.{of_user, has_any}
 use Rattle.ch_history.specs.UserFrames.{tell_watchers}
-use Rattle.ch_ushard.specs.Made.{told}
+use Rattle.ch_ushard.specs.Effects.{told}
 use Rattle.ch_ushard.proofs.Told.{tells_all, tells_none, tells_nobody}
 use Rattle.ch_ushard.proofs.telling.greeting.Goals as goal
 use Rattle.ch_ushard.proofs.telling.greeting.Goals.{then-is_online-via-then-is_online, then-is_online-via-else-is_online+then-watchers-eq0}

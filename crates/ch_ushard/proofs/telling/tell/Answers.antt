@@ -3,7 +3,7 @@ use Rattle.std.specs.Arc.{arc_value}
 use Rattle.ch_base.specs.declared.frame.Frame.{Frame}
 use Rattle.ch_history.specs.declared.rows.Delivery.{Delivery}
 use Rattle.ch_history.specs.SignIns.{of_user}
-use Rattle.ch_ushard.specs.Made.{told, told_one}
+use Rattle.ch_ushard.specs.Effects.{told, told_one}
 use Rattle.ch_ushard.proofs.Told.{told_next, owner_below}
 use Rattle.ch_ushard.proofs.telling.tell.Goals as goal
 

@@ -1,7 +1,7 @@
 use Rattle.std.proofs.Common.{◌≡◌, ◌++◌, take}
 use Rattle.std.specs.Arc.{arc_value}
 use Rattle.ch_history.specs.SignIns.{of_user}
-use Rattle.ch_ushard.specs.Made.{told}
+use Rattle.ch_ushard.specs.Effects.{told}
 use Rattle.ch_ushard.proofs.telling.tell.Given as goal
 
 abbrev pub invariant-loop-i : goal.invariant-loop-i

@@ -11,9 +11,9 @@ pub invariant_of-result : goal.invariant_of-result
 invariant_of-result c =
     let chan_place : ChanSeat → ℕ × ℕ = λ s. (s.k, s.n) in
     let user_place : UserSeat → ℕ × ℕ = λ s. (s.k, s.n) in
-    IsHouse-new c.in_ok-chans.chans c.in_ok-users.users c.args.chans c.args.users (map chan_place c.in_ok-chan_seats.field-0) (map user_place c.in_ok-user_seats.field-0) c.requires.chans c.requires.users
-    c.in_ok-chans.ensures.places (length-map c.in_ok-chan_seats.field-0 chan_place ∙ c.in_ok-chan_seats.ensures.count) c.in_ok-chan_seats.ensures.places
-    c.in_ok-users.ensures.places (length-map c.in_ok-user_seats.field-0 user_place ∙ c.in_ok-user_seats.ensures.count) c.in_ok-user_seats.ensures.places (c.in_ok-users.ensures.callers ∙ sym c.in_ok-chans.ensures.callers)
+    IsHouse-new c.in_ok-chans.chans c.in_ok-users.users c.args.chans c.args.users (map chan_place c.in_ok-fresh_seats.field-0) (map user_place c.in_ok-fresh_seats-2.field-0) c.requires.chans c.requires.users
+    c.in_ok-chans.ensures.places (length-map c.in_ok-fresh_seats.field-0 chan_place ∙ c.in_ok-fresh_seats.ensures.count) c.in_ok-fresh_seats.ensures.places
+    c.in_ok-users.ensures.places (length-map c.in_ok-fresh_seats-2.field-0 user_place ∙ c.in_ok-fresh_seats-2.ensures.count) c.in_ok-fresh_seats-2.ensures.places (c.in_ok-users.ensures.callers ∙ sym c.in_ok-chans.ensures.callers)
 
 pub invariant_of-passes : goal.invariant_of-passes
 invariant_of-passes c =
@@ -22,11 +22,11 @@ invariant_of-passes c =
     let own = c.in_ok-chans.ensures.own in
     let user_own = c.in_ok-users.ensures.own in
     let home : IsHouse record { chans = c.in_ok-chans.chans; users = c.in_ok-users.users } =
-    IsHouse-new c.in_ok-chans.chans c.in_ok-users.users c.args.chans c.args.users (map chan_place c.in_ok-chan_seats.field-0) (map user_place c.in_ok-user_seats.field-0) c.requires.chans c.requires.users
-    c.in_ok-chans.ensures.places (length-map c.in_ok-chan_seats.field-0 chan_place ∙ c.in_ok-chan_seats.ensures.count) c.in_ok-chan_seats.ensures.places
-    c.in_ok-users.ensures.places (length-map c.in_ok-user_seats.field-0 user_place ∙ c.in_ok-user_seats.ensures.count) c.in_ok-user_seats.ensures.places (c.in_ok-users.ensures.callers ∙ sym c.in_ok-chans.ensures.callers) in
-    let count = count_by_places c.in_ok-chans.chans (map chan_place c.in_ok-chan_seats.field-0) c.args.chans c.in_ok-chans.ensures.places (length-map c.in_ok-chan_seats.field-0 chan_place ∙ c.in_ok-chan_seats.ensures.count) in
-    let user_count = count_by_places c.in_ok-users.users (map user_place c.in_ok-user_seats.field-0) c.args.users c.in_ok-users.ensures.places (length-map c.in_ok-user_seats.field-0 user_place ∙ c.in_ok-user_seats.ensures.count) in
+    IsHouse-new c.in_ok-chans.chans c.in_ok-users.users c.args.chans c.args.users (map chan_place c.in_ok-fresh_seats.field-0) (map user_place c.in_ok-fresh_seats-2.field-0) c.requires.chans c.requires.users
+    c.in_ok-chans.ensures.places (length-map c.in_ok-fresh_seats.field-0 chan_place ∙ c.in_ok-fresh_seats.ensures.count) c.in_ok-fresh_seats.ensures.places
+    c.in_ok-users.ensures.places (length-map c.in_ok-fresh_seats-2.field-0 user_place ∙ c.in_ok-fresh_seats-2.ensures.count) c.in_ok-fresh_seats-2.ensures.places (c.in_ok-users.ensures.callers ∙ sym c.in_ok-chans.ensures.callers) in
+    let count = count_by_places c.in_ok-chans.chans (map chan_place c.in_ok-fresh_seats.field-0) c.args.chans c.in_ok-chans.ensures.places (length-map c.in_ok-fresh_seats.field-0 chan_place ∙ c.in_ok-fresh_seats.ensures.count) in
+    let user_count = count_by_places c.in_ok-users.users (map user_place c.in_ok-fresh_seats-2.field-0) c.args.users c.in_ok-users.ensures.places (length-map c.in_ok-fresh_seats-2.field-0 user_place ∙ c.in_ok-fresh_seats-2.ensures.count) in
     let locks = ap (λ (r : RowModel). length r.locks) own in
     let user_locks = ap (λ (r : RowModel). length r.locks) user_own in
     let room = c.in_ok-chan_room.ensures.capacity in
@@ -45,12 +45,12 @@ invariant_of-passes c =
 pub returns-clause-chans : goal.returns-clause-chans
 returns-clause-chans c =
     let chan_place : ChanSeat → ℕ × ℕ = λ s. (s.k, s.n) in
-    count_by_places c.in_ok-chans.chans (map chan_place c.in_ok-chan_seats.field-0) c.args.chans c.in_ok-chans.ensures.places (length-map c.in_ok-chan_seats.field-0 chan_place ∙ c.in_ok-chan_seats.ensures.count)
+    count_by_places c.in_ok-chans.chans (map chan_place c.in_ok-fresh_seats.field-0) c.args.chans c.in_ok-chans.ensures.places (length-map c.in_ok-fresh_seats.field-0 chan_place ∙ c.in_ok-fresh_seats.ensures.count)
 
 pub returns-clause-users : goal.returns-clause-users
 returns-clause-users c =
     let user_place : UserSeat → ℕ × ℕ = λ s. (s.k, s.n) in
-    count_by_places c.in_ok-users.users (map user_place c.in_ok-user_seats.field-0) c.args.users c.in_ok-users.ensures.places (length-map c.in_ok-user_seats.field-0 user_place ∙ c.in_ok-user_seats.ensures.count)
+    count_by_places c.in_ok-users.users (map user_place c.in_ok-fresh_seats-2.field-0) c.args.users c.in_ok-users.ensures.places (length-map c.in_ok-fresh_seats-2.field-0 user_place ∙ c.in_ok-fresh_seats-2.ensures.count)
 
 pub returns-clause-count : goal.returns-clause-count
 returns-clause-count c =

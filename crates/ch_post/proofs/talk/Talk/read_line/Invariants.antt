@@ -1,4 +1,6 @@
 use Rattle.std.proofs.Common.{◌+◌, ◌-◌, length, cond}
+use Rattle.ch_post.specs.declared.talk.TheConstants.{MOST_STALLS}
+use Rattle.ch_post.specs.declared.seen.TheConstants.{MOST_SEEN}
 use Rattle.ch_post.specs.Talks.{IsPatient}
 use Rattle.ch_post.proofs.Writing.{Read}
 use Rattle.ch_post.proofs.talk.Talk.read_line.Given as goal
@@ -9,4 +11,4 @@ invariant-loop-self g l =
     × IsPatient (g.L.Link.told l.self.link) l.self.goes_on l.self.stalls
 
 abbrev pub decreases-loop-self : goal.decreases-loop-self
-decreases-loop-self g l = (1024 - length l.seen) + ((1000 - l.self.stalls) + cond l.self.goes_on 1 0)
+decreases-loop-self g l = (MOST_SEEN - length l.seen) + ((MOST_STALLS - l.self.stalls) + cond l.self.goes_on 1 0)

@@ -1,4 +1,5 @@
 use Rattle.std.proofs.Common.{◌+◌, ◌-◌, length, cond}
+use Rattle.ch_post.specs.declared.talk.TheConstants.{MOST_STALLS}
 use Rattle.ch_post.specs.Talks.{IsPatient, TalkView}
 use Rattle.ch_post.proofs.Writing.{Wrote}
 use Rattle.ch_post.proofs.talk.Talk.write.Given as goal
@@ -9,4 +10,4 @@ invariant-loop-self g l =
     × IsPatient (g.L.Link.told l.self.link) l.self.goes_on l.self.stalls
 
 abbrev pub decreases-loop-self : goal.decreases-loop-self
-decreases-loop-self g l = length l.left + ((1000 - l.self.stalls) + cond l.self.goes_on 1 0)
+decreases-loop-self g l = length l.left + ((MOST_STALLS - l.self.stalls) + cond l.self.goes_on 1 0)

@@ -2,7 +2,7 @@ use Rattle.std.proofs.Common.{◌≡◌, ℕ, List, sym, ap, ◌∙◌, subst}
 use Rattle.std.specs.Prelude.{Option, None, is_some, option_map, IfOk}
 use Rattle.ch_protocol.specs.Sessions.{is_given, subscribes}
 use Rattle.ch_protocol.specs.Settling.{user_of}
-use Rattle.ch_protocol.specs.UserChannels.{channel_user}
+use Rattle.ch_history.specs.UserChannels.{channel_user}
 use Rattle.ch_session.specs.Judging.{known}
 use Rattle.ch_session.proofs.JudgingLemmas.{no_owner}
 use Rattle.ch_session.proofs.HearingLemmas.{good_if_no_user, own_by}

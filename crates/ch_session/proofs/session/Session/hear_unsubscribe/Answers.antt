@@ -1,5 +1,5 @@
 use Rattle.std.proofs.Common.{◌≡◌, [], false, sym, ap, ◌∙◌}
-use Rattle.ch_protocol.specs.UserChannels.{is_user_channel}
+use Rattle.ch_history.specs.UserChannels.{is_user_channel}
 use Rattle.ch_session.specs.Judging.{known}
 use Rattle.ch_session.proofs.HearingLemmas.{good_if_no_user, unsubscribe_by}
 use Rattle.ch_session.proofs.session.Session.hear_unsubscribe.Goals as goal

@@ -6,7 +6,7 @@ use Rattle.ch_frames.specs.Checked.{IsGoodUser}
 use Rattle.ch_protocol.specs.Sessions.{signs_in, socket_id}
 use Rattle.ch_protocol.specs.declared.client_message.UserData.{UserData}
 use Rattle.ch_session.specs.Judging.{IsReady, known}
-use Rattle.ch_session.specs.Kept.{Kept, IsOver, IsSession}
+use Rattle.ch_session.specs.Kept.{Kept, HasShardsOf, IsSession}
 use Rattle.ch_session.specs.Signed.{signed_for_user}
 use Rattle.ch_session.proofs.JudgingLemmas.{sign_in_ready, sign_in_judged}
 use Rattle.ch_session.proofs.SettlingLemmas.{few_if_fit}
@@ -26,7 +26,7 @@ pub returns-clause-ready : goal.returns-clause-ready
 returns-clause-ready c =
     let old : Kept = record { start = c.self.inside.start; number = c.self.inside.number; chans = c.self.inside.chans; told = c.self.inside.told; waits = c.self.inside.waits; quiet = c.self.inside.activity; lost = c.self.inside.lost } in
     let P : Kept → Type 0 = λ s. IfOk c.signed_in.result (IsReady s c.args.config.now c.args.user_data) in
-    let over = subst (λ (s : Kept). IsOver s c.args.config.now) (sym c.self.view_is) c.requires.over in
+    let over = subst (λ (s : Kept). HasShardsOf s c.args.config.now) (sym c.self.view_is) c.requires.over in
     let few = few_if_fit c.self.inside.told c.self.inside.chans c.self.inside.waits c.self.invariant.4 in
     let good = subst (λ u. IfSome u IsGoodUser) c.in-Some.is c.requires.user in
     subst P c.self.view_is

@@ -8,7 +8,7 @@ use Rattle.ch_presence.specs.declared.present.Present.{Present}
 use Rattle.ch_presence.specs.Members.{with_newcomer}
 use Rattle.ch_shard.specs.Greeting.{IsAbsent}
 use Rattle.ch_shard.specs.Parts.{Parts, newcomer, join_hooks}
-use Rattle.ch_shard.specs.Sound.{IsSound}
+use Rattle.ch_shard.specs.Sound.{AreSoundRows}
 use Rattle.ch_hooklog.specs.HookLog.{IsOfOneCall}
 use Rattle.ch_shard.proofs.Greetings.{absent_is}
 use Rattle.ch_shard.proofs.Occurring.{occurs, join-call}
@@ -56,8 +56,8 @@ invariant_of-self-in-Err c =
     let off : is_on xs c.args.socket d ≡ false = same ∙ sym c.on.ensures ∙ c.if-on.false in
     let joined : c.join.new.self ≡ xs ++ n ∷ [] = c.in_ok-join.ensures.ok ∙ ap (λ b. cond b xs (xs ++ n ∷ [])) off in
     let undone : c.leave.new.self ≡ xs = c.leave.ensures.subs ∙ ap (λ ys. without_one ys c.args.socket d) joined ∙ join_undone xs n off in
-    let P = λ (ys : List Subscription). IsSound ys c.enter.new.presence.rows in
-    subst P (sym undone) (subst (IsSound xs) (sym c.in-Err.ensures.err) c.self-2.invariant)
+    let P = λ (ys : List Subscription). AreSoundRows ys c.enter.new.presence.rows in
+    subst P (sym undone) (subst (AreSoundRows xs) (sym c.in-Err.ensures.err) c.self-2.invariant)
 
 pub returns-in-Err : goal.returns-in-Err
 returns-in-Err c =
@@ -86,8 +86,8 @@ invariant_of-self-2 c =
     let same = ap (λ (k : Parts). is_on k.subs c.args.socket d) (c.self-2.view_is ∙ c.in_ok-frames.ensures.same ∙ sym c.self.view_is) in
     let off : is_on xs c.args.socket d ≡ false = same ∙ sym c.on.ensures ∙ c.if-on.false in
     let now : c.join.new.self ≡ xs ++ n ∷ [] = c.in_ok-join.ensures.ok ∙ ap (λ b. cond b xs (xs ++ n ∷ [])) off in
-    let P = λ (ys : List Subscription). IsSound ys c.enter.new.presence.rows in
-    let Q = λ (rs : List Present). IsSound (xs ++ n ∷ []) rs in
+    let P = λ (ys : List Subscription). AreSoundRows ys c.enter.new.presence.rows in
+    let Q = λ (rs : List Present). AreSoundRows (xs ++ n ∷ []) rs in
     subst P (sym now)
     (subst Q (sym (c.in-Ok.ensures.ok ∙ ap (with_newcomer rows) (c.as_ref-2.ensures.value ∙ c.in_ok-row.ensures)))
     (IsSound-join xs rows n c.requires.caller c.requires.member c.self-2.invariant))

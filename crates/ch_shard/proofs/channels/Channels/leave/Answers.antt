@@ -4,7 +4,7 @@ use Rattle.ch_history.specs.Deliveries.{for_owner}
 use Rattle.ch_history.specs.Subscriptions.{is_on}
 use Rattle.ch_presence.specs.declared.present.Present.{Present}
 use Rattle.ch_subs.specs.Subs.{without_one}
-use Rattle.ch_shard.specs.Sound.{IsSound}
+use Rattle.ch_shard.specs.Sound.{AreSoundRows}
 use Rattle.ch_hooklog.specs.HookLog.{IsOfOneCall}
 use Rattle.ch_shard.specs.Parting.{leave_frames, leave_hooks}
 use Rattle.ch_shard.proofs.Occurring.{occurs, leave-call}
@@ -50,6 +50,6 @@ invariant_of-self-2 c =
     let d = c.args.channel.now in
     let socket = c.args.socket in
     let xs = c.self.inside.subs in
-    let P = λ (ys : List Subscription). IsSound ys c.depart.new.presence.rows in
-    let Q = λ (rs : List Present). IsSound (without_one xs socket d) rs in
+    let P = λ (ys : List Subscription). AreSoundRows ys c.depart.new.presence.rows in
+    let Q = λ (rs : List Present). AreSoundRows (without_one xs socket d) rs in
     subst P (sym c.leave.ensures.subs) (subst Q (sym c.depart.ensures) (IsSound-leave xs c.self.inside.presence.rows d socket c.self.invariant))

@@ -4,7 +4,7 @@ use Rattle.ch_history.specs.declared.rows.Subscription.{Subscription}
 use Rattle.ch_history.specs.Deliveries.{for_owner}
 use Rattle.ch_presence.specs.declared.present.Present.{Present}
 use Rattle.ch_subs.specs.Subs.{without_all}
-use Rattle.ch_shard.specs.Sound.{IsSound}
+use Rattle.ch_shard.specs.Sound.{AreSoundRows}
 use Rattle.ch_shard.proofs.Sounds.{IsSound-lost}
 use Rattle.ch_hooklog.specs.HookLog.{IsOfOneCall}
 use Rattle.ch_history.specs.Subscriptions.{channels_in}
@@ -39,6 +39,6 @@ pub invariant_of-self-2 : goal.invariant_of-self-2
 invariant_of-self-2 c =
     let socket = c.args.socket in
     let xs = c.self.inside.subs in
-    let P = λ (ys : List Subscription). IsSound ys c.lost.new.self.rows in
-    let Q = λ (rs : List Present). IsSound (without_all xs socket) rs in
+    let P = λ (ys : List Subscription). AreSoundRows ys c.lost.new.self.rows in
+    let Q = λ (rs : List Present). AreSoundRows (without_all xs socket) rs in
     subst P (sym c.lost-count.ensures.subs) (subst Q (sym c.lost.ensures) (IsSound-lost xs c.self.inside.presence.rows socket c.self.invariant))

@@ -6,23 +6,24 @@ use Rattle.ch_history.proofs.Push.{clock-push}
 use Rattle.ch_history.proofs.Occupancy.{occupancy_law}
 use Rattle.ch_history.proofs.Membership.{membership_law}
 use Rattle.ch_history.proofs.CacheNewcomer.{cache_newcomer_law}
-use Rattle.ch_shard.specs.Kept.{Kept}
+use Rattle.ch_shard.specs.ShardState.{ShardState}
 use Rattle.ch_shard.specs.Stands.{Stands}
-use Rattle.ch_shard.specs.Tail.{brief_of, max_tail}
+use Rattle.ch_shard.specs.Tail.{brief_of}
+use Rattle.ch_history.specs.declared.limits.TheConstants.{LONGEST_TAIL}
 use Rattle.ch_shard.proofs.LastEntries.{tail-push}
 use Rattle.ch_shard.proofs.shard.ChanShard.apply.Goals as goal
 
 pub returns-clause-stands : goal.returns-clause-stands
 returns-clause-stands c = λ h stands.
     let e = entry c.args.caller c.args.call.now c.in_ok-answer.answer in
-    let P = λ (k : Kept). Stands k h in
+    let P = λ (k : ShardState). Stands k h in
     let before = subst P (sym c.self.view_is) stands in
     let clocked = c.clock_with-now.ensures.clock ∙ ap (λ t. clock_with t c.args.call.now) before.clock in
     let after = c.in_ok-answer.ensures.stands h clocked before.parts in
     record {
       legal = after.legal;
       parts = after;
-      tail = c.note.ensures ∙ ap (λ t. keep_last max_tail (t ++ brief_of e ∷ [])) before.tail ∙ tail-push h e;
+      tail = c.note.ensures ∙ ap (λ t. keep_last LONGEST_TAIL (t ++ brief_of e ∷ [])) before.tail ∙ tail-push h e;
       clock = clocked ∙ sym (clock-push h e);
     }
 

@@ -1,5 +1,5 @@
 use Rattle.ch_history.proofs.Watchers.{watchers_law}
-use Rattle.ch_ushard.specs.Kept.{SignInGives, WatchGives, LostGives, TerminateGives, SendToGives}
+use Rattle.ch_ushard.specs.UserShardState.{SignInGives, WatchGives, LostGives, TerminateGives, SendToGives}
 use Rattle.ch_ushard.proofs.Simulation.{Stands-served, Stands-answered}
 use Rattle.ch_ushard.proofs.Steps.{signs, watches, loses, terminates, sends, takes_frames}
 use Rattle.ch_ushard.proofs.shard.UserShard.apply.Goals as goal

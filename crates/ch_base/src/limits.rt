@@ -1,0 +1,5 @@
+/// How many brackets of a JSON text may be open.
+pub const MAX_DEPTH: usize = 64;
+
+/// The latest moment of a call, in milliseconds.
+pub const LATEST_MOMENT: u64 = 1_000_000_000_000_000;

@@ -1,0 +1,2 @@
+/// How many items an intake holds.
+pub const PLACES: usize = 128;

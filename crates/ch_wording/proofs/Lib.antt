@@ -1,2 +1,0 @@
-pub mod HexTexts
-pub mod ShardTails

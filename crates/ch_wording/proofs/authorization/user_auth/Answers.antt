@@ -1,5 +1,0 @@
-use Rattle.ch_wording.proofs.HexTexts.{hex_is_utf8}
-use Rattle.ch_wording.proofs.authorization.user_auth.Goals as goal
-
-pub authorization-requires : goal.authorization-requires
-authorization-requires c = rw c.user_sig-signature.ensures (hex_is_utf8 _ _)
