@@ -1,13 +1,16 @@
 //! What a call on a channel shard takes with 1,000 subscriptions, and with more: a publish to 1,000 of them, a join, a leave
-//! and a loss. And the memory of a subscription, in bytes.
+//! and a loss. And the memory of a subscription, in bytes. Then what a delivery takes, with texts that sockets share and with
+//! frames of their own.
 //!
 //! `bench_shard <subscriptions>` measures with 1,000 and with so many. With no number it only says how it is called.
 #![tactic(auto)]
 
 mod calls;
+mod delivered;
 mod filled;
 mod measured;
 mod memory;
+mod serving;
 
 use std::env::{self, Env};
 use std::io;
@@ -35,5 +38,6 @@ fn main(rt: HostRuntime) -> io::Result<()> {
         growth(few.join, many.join),
         growth(few.leave, many.leave),
         growth(few.loss, many.loss)
-    )
+    )?;
+    delivered::measure(&rt, rt.alloc())
 }

@@ -1,5 +1,6 @@
 //! What the calls take.
 use crate::filled::{MOST, filled};
+use crate::serving::serve;
 use crate::{calls, memory};
 use ch_base::{ChanCall, Memory};
 use ch_shard::ChanShard;
@@ -31,19 +32,26 @@ pub fn measure<R: Print + Clock + Files + AllocGlobal>(
 ) -> io::Result<Costs> {
     let subscriptions = subscriptions.min(MOST);
     let before = memory::resident(rt)?;
-    let Ok(mut shard) = filled(alloc, subscriptions) else {
-        return Err(no_memory());
-    };
-    let taken = memory::resident(rt)?.saturating_sub(before);
+    match filled(alloc, subscriptions) {
+        Ok(mut shard) => {
+            let taken = memory::resident(rt)?.saturating_sub(before);
+            let each = taken / subscriptions.max(1);
+            println!(rt; "{subscriptions} subscriptions, {each} bytes each")?;
+            time_calls(rt, alloc, &mut shard)
+        }
+        Err(_) => Err(no_memory()),
+    }
+}
+
+fn time_calls<R: Print + Clock>(rt: &R, alloc: Global, shard: &mut ChanShard) -> io::Result<Costs> {
     let costs = Costs {
-        publish: time_publish(rt, alloc, &mut shard)?,
-        join: time_join(rt, alloc, &mut shard)?,
-        leave: time_leave(rt, alloc, &mut shard)?,
-        loss: time_loss(rt, alloc, &mut shard)?,
+        publish: time_publish(rt, alloc, shard)?,
+        join: time_join(rt, alloc, shard)?,
+        leave: time_leave(rt, alloc, shard)?,
+        loss: time_loss(rt, alloc, shard)?,
     };
-    let each = taken / subscriptions.max(1);
     println!(rt;
-        "{subscriptions} subscriptions: publish to 1000 {} ns, join {} ns, leave {} ns, loss {} ns; {each} bytes each",
+        "publish to 1000 {} ns, join {} ns, leave {} ns, loss {} ns",
         costs.publish, costs.join, costs.leave, costs.loss
     )?;
     Ok(costs)
@@ -65,8 +73,8 @@ fn time_publish<R: Clock>(rt: &R, alloc: Global, shard: &mut ChanShard) -> io::R
 
 fn publish_and_take(alloc: Global, shard: &mut ChanShard) -> Result<(), Memory> {
     let call = calls::publish(alloc, "room")?;
-    shard.apply(0, &call)?;
-    shard.apply(0, &ChanCall::Take)?;
+    serve(shard, &call)?;
+    serve(shard, &ChanCall::Take)?;
     Ok(())
 }
 
@@ -83,7 +91,7 @@ fn time_join<R: Clock>(rt: &R, alloc: Global, shard: &mut ChanShard) -> io::Resu
 /// Subscribes a socket above all that fill the shard to `hall`.
 fn join(alloc: Global, shard: &mut ChanShard, time: u64) -> Result<(), Memory> {
     let call = calls::join(alloc, MOST + 1 + time % TIMES, "hall")?;
-    shard.apply(0, &call)?;
+    serve(shard, &call)?;
     Ok(())
 }
 
@@ -100,7 +108,7 @@ fn time_leave<R: Clock>(rt: &R, alloc: Global, shard: &mut ChanShard) -> io::Res
 /// Ends the subscription that `join` made.
 fn leave(alloc: Global, shard: &mut ChanShard, time: u64) -> Result<(), Memory> {
     let call = calls::leave(alloc, MOST + 1 + time % TIMES, "hall")?;
-    shard.apply(0, &call)?;
+    serve(shard, &call)?;
     Ok(())
 }
 
@@ -125,6 +133,6 @@ fn lose(shard: &mut ChanShard, time: u64) -> Result<(), Memory> {
         socket: MOST + 1 + time % TIMES,
         at: 0,
     };
-    shard.apply(0, &call)?;
+    serve(shard, &call)?;
     Ok(())
 }
