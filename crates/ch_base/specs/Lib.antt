@@ -3,6 +3,10 @@ pub mod Grammar
 pub mod Growth
 pub mod JsonText
 pub mod JsonTree
+pub mod JsonParts
+pub mod JsonNames
+pub mod ObjectMembers
+pub mod FirstPlaces
 pub mod ErrorTexts
 pub mod Events
 pub mod PresenceData

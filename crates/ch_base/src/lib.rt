@@ -2,8 +2,8 @@
 //! webhook events, and `Served`, whose calls are entries of a history.
 //!
 //! A `Text` is its bytes, which are UTF-8; a list is its elements in order; all other types are
-//! plain data. `specs/` has the grammar of JSON texts (RFC 8259), the escaping of strings, and what
-//! it means that a list of entries grows by a call.
+//! plain data. `specs/` has the grammar of JSON texts (RFC 8259), what an object says by its
+//! members, the escaping of strings, and what it means that a list of entries grows by a call.
 #![tactic(auto)]
 
 mod channel;

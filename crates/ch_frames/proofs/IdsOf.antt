@@ -4,15 +4,15 @@ use Rattle.std.specs.Prelude.{Option, None, Result, Ok, Err, IfOk, IsTrue, codes
 use Rattle.ch_base.specs.JsonTree.{Span, Tree, plain, null, no, yes, number, string, array, object, Members}
 use Rattle.ch_base.specs.JsonText.{Unescapes}
 use Rattle.ch_base.specs.declared.channel.Member.{Member}
+use Rattle.ch_base.specs.JsonParts.{part, spelled_at}
+use Rattle.ch_base.specs.ObjectMembers.{HasOne}
 use Rattle.ch_json.specs.NodeOf.{form_of}
-use Rattle.ch_json.specs.Parts.{part, spelled_at}
 use Rattle.ch_json.specs.declared.node.Form.{Form}
 use Rattle.ch_json.specs.declared.node.Form.TheVariants as form
 use Rattle.ch_json.proofs.OneText.{one_text}
 use Rattle.ch_json.proofs.Forms.{string_from_form}
 use Rattle.ch_history.specs.Limits.{is_user_id}
 use Rattle.ch_history.specs.WellFormed.{IsMember}
-use Rattle.ch_protocol.specs.ObjectMembers.{HasOne}
 use Rattle.ch_protocol.specs.ChannelData.{is_whole, IsIdOf, HasId, TellsMember}
 use Rattle.ch_frames.specs.declared.refused.Unread.{Unread}
 use Rattle.ch_members.specs.Readings.{Gives}

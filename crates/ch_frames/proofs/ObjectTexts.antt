@@ -4,12 +4,12 @@ use Rattle.ch_base.specs.Grammar.{Byte, ◌then◌}
 use Rattle.ch_base.specs.JsonTree.{Span, Tree, plain, string, object, Members, no_members, member}
 use Rattle.ch_base.specs.JsonText.{Blanks, Value, MoreMembers, SpellsWithin, Unescapes}
 use Rattle.ch_base.specs.Escape.{quoted}
-use Rattle.ch_json.specs.Named.{Named}
-use Rattle.ch_json.specs.Parts.{part}
+use Rattle.ch_base.specs.JsonParts.{part}
+use Rattle.ch_base.specs.JsonNames.{Named}
+use Rattle.ch_base.specs.ObjectMembers.{IsObjectText, HasString}
 use Rattle.ch_json.proofs.Alone.{IsValueBefore, value_alone}
 use Rattle.ch_json.proofs.Lists.{drop_front, take_front}
 use Rattle.ch_json.proofs.OneText.{one_text}
-use Rattle.ch_protocol.specs.ObjectMembers.{IsObjectText, HasString}
 use Rattle.ch_frames.proofs.QuotedStrings.{string_before, quoted_unescapes}
 
 -- ---- blanks and values, in front of anything

@@ -3,12 +3,13 @@ use Rattle.std.proofs.Common.{◌≡◌, inl, inr, ℕ, List, [], ◌∷◌, len
 use Rattle.std.specs.Prelude.{Option, Err, codes, nat_lt, MatchBool}
 use Rattle.ch_base.specs.JsonTree.{Span, Tree, plain, null, no, yes, number, string, array, object, Items, Members}
 use Rattle.ch_base.specs.declared.channel.Member.{Member}
-use Rattle.ch_json.specs.Parts.{part, items_of}
+use Rattle.ch_base.specs.JsonParts.{part, items_of}
+use Rattle.ch_base.specs.ObjectMembers.{HasOne, HasString, IsLeftOut, HasOptional, HasSpelled}
+use Rattle.ch_base.specs.FirstPlaces.{first_places}
 use Rattle.ch_json.proofs.OneText.{one_text}
-use Rattle.ch_protocol.specs.ObjectMembers.{HasOne, HasString, IsLeftOut, HasOptional, HasSpelled}
 use Rattle.ch_protocol.specs.ClientMessages.{Verdict, ClientEvent, ping, pong, subscribe, unsubscribe, sign_in, client, unknown, event_of, SubscribeShape, UnsubscribeShape, SignInShape, SayShape, checked, Shaped, SaysEvent, SaysObject, Says}
 use Rattle.ch_protocol.specs.ChannelData.{IsIdOf, HasId, IsMemberData}
-use Rattle.ch_protocol.specs.UserDataText.{first_places, AreIds, HasWatchlist, IsUserData}
+use Rattle.ch_protocol.specs.UserDataText.{AreIds, HasWatchlist, IsUserData}
 use Rattle.ch_protocol.specs.declared.client_message.ClientMessage.{ClientMessage}
 use Rattle.ch_protocol.specs.declared.client_message.ClientMessage.TheVariants.{Ping, Pong, Subscribe, Unsubscribe, SignIn, Say}
 use Rattle.ch_protocol.specs.declared.client_message.UserData.{UserData}

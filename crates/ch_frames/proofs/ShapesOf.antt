@@ -2,9 +2,9 @@
 use Rattle.std.proofs.Common.{◌≡◌, ℕ, List, Some, refl, subst}
 use Rattle.std.specs.Prelude.{Option, None, codes}
 use Rattle.ch_base.specs.JsonTree.{Members}
+use Rattle.ch_base.specs.ObjectMembers.{HasString, HasOptional, HasSpelled}
 use Rattle.ch_json.specs.Document.{Document}
 use Rattle.ch_json.specs.declared.node.Node.{Node}
-use Rattle.ch_protocol.specs.ObjectMembers.{HasString, HasOptional, HasSpelled}
 use Rattle.ch_protocol.specs.ClientMessages.{HasData, SubscribeShape, UnsubscribeShape, SignInShape, SayShape}
 use Rattle.ch_protocol.specs.declared.client_message.ClientMessage.{ClientMessage}
 use Rattle.ch_protocol.specs.declared.client_message.ClientMessage.TheVariants.{Ping, Pong, Subscribe, Unsubscribe, SignIn, Say}

@@ -4,10 +4,10 @@ use Rattle.std.specs.Prelude.{Option, None, Result, Ok, Err, IfOk, IfErr, codes,
 use Rattle.std.proofs.lemmas.Bool.Decides.{nat_tests}
 use Rattle.ch_base.specs.JsonTree.{Members}
 use Rattle.ch_base.specs.JsonText.{IsJsonText}
+use Rattle.ch_base.specs.ObjectMembers.{IsObjectText}
 use Rattle.ch_history.specs.ChannelName.{is_good_name}
 use Rattle.ch_history.specs.Limits.{is_event_name}
 use Rattle.ch_history.specs.UserChannels.{is_subscribable}
-use Rattle.ch_protocol.specs.ObjectMembers.{IsObjectText}
 use Rattle.ch_protocol.specs.ClientMessages.{Verdict, ClientEvent, ping, pong, subscribe, unsubscribe, sign_in, client, unknown, event_of, SubscribeShape, UnsubscribeShape, SignInShape, SayShape, checked, Shaped, SaysEvent, SaysObject}
 use Rattle.ch_protocol.specs.declared.client_message.ClientMessage.{ClientMessage}
 use Rattle.ch_protocol.specs.declared.client_message.ClientMessage.TheVariants.{Ping, Pong, Subscribe, Unsubscribe, SignIn, Say}

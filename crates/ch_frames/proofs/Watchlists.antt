@@ -4,14 +4,15 @@ use Rattle.std.specs.Prelude.{Option, None, Result, Ok, Err, IfOk, codes, filter
 use Rattle.std.specs.List.{list_all}
 use Rattle.std.proofs.lemmas.Bool.{and_parts, and_from}
 use Rattle.ch_base.specs.JsonTree.{Span, Tree, plain, null, array, Items, Members}
+use Rattle.ch_base.specs.JsonParts.{items_of}
+use Rattle.ch_base.specs.JsonNames.{Named}
+use Rattle.ch_base.specs.ObjectMembers.{HasOne}
+use Rattle.ch_base.specs.FirstPlaces.{first_places}
 use Rattle.ch_json.specs.NodeOf.{form_of}
-use Rattle.ch_json.specs.Named.{Named}
-use Rattle.ch_json.specs.Parts.{items_of}
 use Rattle.ch_json.specs.declared.node.Form.{Form}
 use Rattle.ch_json.specs.declared.node.Form.TheVariants as form
 use Rattle.ch_history.specs.Limits.{is_user_id}
-use Rattle.ch_protocol.specs.ObjectMembers.{HasOne}
-use Rattle.ch_protocol.specs.UserDataText.{first_places, AreIds, IsIdList, HasWatchlist, TellsUser}
+use Rattle.ch_protocol.specs.UserDataText.{AreIds, IsIdList, HasWatchlist, TellsUser}
 use Rattle.ch_protocol.specs.declared.client_message.UserData.{UserData}
 use Rattle.ch_frames.specs.declared.refused.Unread.{Unread}
 use Rattle.ch_members.specs.Readings.{Gives}

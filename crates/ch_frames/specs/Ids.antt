@@ -3,8 +3,8 @@ use Rattle.std.specs.Prelude.{◌≡◌, ◌⊎◌, ℕ, Bool, ◌||◌, ◌==�
 use Rattle.std.specs.List.{list_all}
 use Rattle.ch_base.specs.JsonTree.{Span, Tree, plain, null, array, Items, Members}
 use Rattle.ch_base.specs.JsonText.{is_e}
+use Rattle.ch_base.specs.ObjectMembers.{HasString}
 use Rattle.ch_history.specs.Limits.{is_user_id}
-use Rattle.ch_protocol.specs.ObjectMembers.{HasString}
 use Rattle.ch_protocol.specs.ChannelData.{is_whole}
 use Rattle.ch_protocol.specs.UserDataText.{IsIdList}
 use Rattle.ch_frames.specs.declared.refused.Unread.{Unread}

@@ -4,8 +4,8 @@ use Rattle.ch_base.specs.JsonTree.{Tree, Members}
 use Rattle.ch_base.specs.JsonText.{SpellsWithin}
 use Rattle.ch_base.specs.declared.frame.Frame.{Frame}
 use Rattle.ch_base.specs.declared.frame.Frame.TheVariants.{Opened, Error, Ping, Pong, Succeeded, Present, Added, Removed, Event, Miss, SignedIn, Watch, Kill}
-use Rattle.ch_protocol.specs.ObjectMembers.{IsObjectText, HasString}
 use Rattle.ch_base.specs.Printed.{printed}
+use Rattle.ch_base.specs.ObjectMembers.{IsObjectText, HasString}
 
 -- the name of a frame's event
 abbrev pub event_name : Frame → List ℕ

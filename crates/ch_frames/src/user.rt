@@ -1,8 +1,8 @@
 //! Who signs in, and whom that user watches.
 ghost use Rattle.std.specs.Prelude.{IfOk};
 ghost use Rattle.ch_base.specs.JsonTree.{Tree, Items, Members};
+ghost use Rattle.ch_base.specs.JsonParts.{items_of};
 ghost use Rattle.ch_json.specs.NodeOf.{IsNode, IsObject};
-ghost use Rattle.ch_json.specs.Parts.{items_of};
 ghost use Rattle.ch_protocol.specs.UserDataText.{AreIds, HasWatchlist, TellsUser};
 ghost use Rattle.ch_members.specs.Readings.{Gives, IsValue, IsObjectOf, IsObjectDoc, IsArrayOf};
 ghost use Rattle.ch_frames.specs.Ids.{Told, HasGoodId, IsWatchlist};

@@ -3,7 +3,7 @@ use Rattle.std.proofs.Common.{◌≡◌, ◌⊎◌, inl, inr, ℕ, zero, suc, �
 use Rattle.ch_base.specs.Grammar.{Rule, Byte, One, ◌then◌, ◌or◌, Maybe, Many}
 use Rattle.ch_base.specs.JsonTree.{Span, Plain, null, no, yes, number, string, Tree, plain, array, object, Items, no_items, item, Members, no_members, member}
 use Rattle.ch_base.specs.JsonText.{is_blank, Blanks, is_digit, is_digit_1_to_9, is_e, is_sign, Digits, Whole, Fraction, Exponent, Number, Char, spelling, Chars, String, PlainValue, Value, Items_, MoreItems, Members_, MoreMembers, SpellsWithin}
-use Rattle.ch_json.specs.Parts.{spelled_at, part, IsSpelledIn}
+use Rattle.ch_base.specs.JsonParts.{spelled_at, part, IsSpelledIn}
 use Rattle.ch_json.specs.Levels.{levels, item_levels, member_levels}
 use Rattle.ch_json.proofs.Lists.{drop_front, take_front}
 use Rattle.ch_json.proofs.PartsOf.{stands}

@@ -4,9 +4,9 @@ use Rattle.std.specs.Prelude.{slice_get, nat_eq}
 use Rattle.std.specs.Cmp.Lexicographic.{pointwise, same_text, other_text}
 use Rattle.ch_base.specs.JsonTree.{Span, Tree, plain, string, object, Members, no_members, member}
 use Rattle.ch_base.specs.JsonText.{Unescapes}
+use Rattle.ch_base.specs.JsonParts.{part, members_of, IsSpelledIn}
+use Rattle.ch_base.specs.JsonNames.{Named}
 use Rattle.ch_json.specs.Document.{Document}
-use Rattle.ch_json.specs.Parts.{part, members_of, IsSpelledIn}
-use Rattle.ch_json.specs.Named.{Named}
 use Rattle.ch_json.specs.NodeOf.{IsNode, Finds}
 use Rattle.ch_json.specs.declared.node.Node.{Node}
 use Rattle.ch_json.specs.declared.node.Found.{Found}

@@ -1,9 +1,9 @@
 -- The value that a form is the form of.
 use Rattle.std.proofs.Common.{◌≡◌, ◌<◌, ℕ, length, Some, refl, sym, subst, arith}
 use Rattle.ch_base.specs.JsonTree.{Span, null, no, yes, number, string, Tree, plain, array, object, Items, Members}
+use Rattle.ch_base.specs.JsonParts.{items_of, members_of, values_of, names_of}
 use Rattle.std.specs.Prelude.{slice_get}
 use Rattle.std.proofs.lemmas.List.{length-map}
-use Rattle.ch_json.specs.Parts.{items_of, members_of, values_of, names_of}
 use Rattle.ch_json.proofs.Lists.{inside_some}
 use Rattle.ch_json.specs.NodeOf.{form_of}
 use Rattle.ch_json.specs.declared.node.Form.TheVariants as form

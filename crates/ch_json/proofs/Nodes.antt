@@ -6,9 +6,9 @@ use Rattle.std.proofs.lemmas.Option.{slice_get_within}
 use Rattle.ch_json.proofs.Lists.{some_back, some_on, inside_some}
 use Rattle.ch_base.specs.JsonTree as tree
 use Rattle.ch_base.specs.JsonTree.{Tree, Items, no_items, item, Members, no_members, member}
+use Rattle.ch_base.specs.JsonParts.{spelled_at, items_of, members_of, values_of, names_of}
 use Rattle.ch_json.specs.Document.{Shape, plain, list, object, Nodes, Shows, ShowsItems, ShowsMembers}
 use Rattle.ch_json.specs.Entries.{span_of, plain_of, member_of, shape_of, held}
-use Rattle.ch_json.specs.Parts.{spelled_at, items_of, members_of, values_of, names_of}
 use Rattle.ch_json.specs.NodeOf.{form_of}
 use Rattle.ch_json.specs.Content.{form_of_plain, form_of_content, values_in, keys_in}
 use Rattle.ch_json.specs.declared.node.Form.TheVariants as form

@@ -6,7 +6,7 @@ use Rattle.std.proofs.lemmas.Str.{IsCharBoundary-before_ascii, IsCharBoundary-af
 use Rattle.ch_base.specs.JsonTree.{Span, Tree, plain, string, array, object, Items, no_items, item, Members, no_members, member}
 use Rattle.ch_base.specs.JsonText.{IsSpanOf, Value, Items_, MoreItems, Members_, MoreMembers, Spells}
 use Rattle.ch_base.specs.declared.limits.TheConstants.{MAX_DEPTH}
-use Rattle.ch_json.specs.Parts.{spelled_at, items_of, members_of, values_of, names_of, IsSpelledIn, IsPart}
+use Rattle.ch_base.specs.JsonParts.{spelled_at, items_of, members_of, values_of, names_of, IsSpelledIn, IsPart}
 use Rattle.ch_json.proofs.Lists.{some_back}
 use Rattle.ch_json.proofs.Cuts.{Cut, cut_on, string_cut, blanks_cut, sign_cut, value_cut, value_ends, value_begins}
 

@@ -5,7 +5,7 @@ use Rattle.std.specs.Str.{IsCharBoundary}
 use Rattle.std.proofs.lemmas.Str.{IsCharBoundary-after_ascii}
 use Rattle.ch_base.specs.JsonTree.{Span, plain, string}
 use Rattle.ch_base.specs.JsonText.{Char, spelling, Chars, char_bytes, Unescapes}
-use Rattle.ch_json.specs.Parts.{part, IsSpelledIn}
+use Rattle.ch_base.specs.JsonParts.{part, IsSpelledIn}
 use Rattle.ch_json.specs.Pieces.{IsRest, GoesOn, IsString}
 use Rattle.ch_json.proofs.Lists.{drop_front, take_front}
 use Rattle.ch_json.proofs.OneText.{one_text}

@@ -3,10 +3,8 @@ pub mod Document
 pub mod Content
 pub mod Entries
 pub mod DocView
-pub mod Parts
 pub mod Pieces
 pub mod NodeOf
-pub mod Named
 pub mod Scalars
 pub mod Machine
 pub mod States

@@ -1,8 +1,8 @@
 -- The nodes of a document by the values that they stand for.
 use Rattle.std.specs.Prelude.{◌≡◌, ◌<◌, ◌≤◌, ℕ, List, [], ◌∷◌, length}
 use Rattle.ch_base.specs.JsonTree.{Span as TreeSpan, Tree, plain, array, object, null, no, yes, number, string, Members}
+use Rattle.ch_base.specs.JsonParts.{values_of, names_of, members_of, items_of, IsSpelledIn}
 use Rattle.ch_json.specs.Document.{Document, Shows}
-use Rattle.ch_json.specs.Parts.{values_of, names_of, members_of, items_of, IsSpelledIn}
 use Rattle.ch_json.specs.declared.node.Node.{Node}
 use Rattle.ch_json.specs.declared.node.Form.{Form}
 use Rattle.ch_json.specs.declared.node.Form.TheVariants as form

@@ -2,8 +2,8 @@
 ghost use Rattle.std.specs.Prelude.{◌≡◌, ◌<◌, ℕ, List, Some, map, slice_get};
 ghost use Rattle.ch_base.specs.JsonTree.{Span as TreeSpan, Tree, Members, plain, string, object};
 ghost use Rattle.ch_base.specs.JsonText.{Spells};
+ghost use Rattle.ch_base.specs.JsonParts.{spelled_at, values_of, names_of, IsSpelledIn};
 ghost use Rattle.ch_json.specs.Entries.{held, span_of};
-ghost use Rattle.ch_json.specs.Parts.{spelled_at, values_of, names_of, IsSpelledIn};
 ghost use Rattle.ch_json.specs.NodeOf.{HasTree, IsNode, HasNode, HasValue, HasName, form_of};
 
 use crate::entry::{Content, Entry};

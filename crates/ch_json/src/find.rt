@@ -1,7 +1,7 @@
 //! Finding a member by its name.
 ghost use Rattle.std.specs.Prelude.{List};
 ghost use Rattle.ch_base.specs.JsonTree.{Span as TreeSpan, Tree, Members, object};
-ghost use Rattle.ch_json.specs.Named.{Named};
+ghost use Rattle.ch_base.specs.JsonNames.{Named};
 ghost use Rattle.ch_json.specs.NodeOf.{IsNode, IsObject, Finds};
 
 use crate::doc::Doc;

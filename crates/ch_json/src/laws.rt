@@ -3,9 +3,9 @@ ghost use Rattle.std.specs.Prelude.{◌≡◌, ◌≤◌, ℕ, List};
 ghost use Rattle.ch_base.specs.JsonTree.{Tree, Members};
 ghost use Rattle.ch_base.specs.JsonText.{Spells, SpellsWithin, Unescapes};
 ghost use Rattle.ch_base.specs.declared.limits.TheConstants.{MAX_DEPTH};
+ghost use Rattle.ch_base.specs.JsonParts.{part, spelled_at, IsSpelledIn};
+ghost use Rattle.ch_base.specs.JsonNames.{Named};
 ghost use Rattle.ch_json.specs.Levels.{levels};
-ghost use Rattle.ch_json.specs.Named.{Named};
-ghost use Rattle.ch_json.specs.Parts.{part, spelled_at, IsSpelledIn};
 
 /// A text spells at most one tree.
 pub fn one_tree()

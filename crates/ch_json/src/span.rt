@@ -9,8 +9,8 @@ pub struct Span {
 }
 
 impl Span {
+    ghost use Rattle.ch_base.specs.JsonParts.{part, IsPart};
     ghost use Rattle.ch_json.specs.Entries.{span_of};
-    ghost use Rattle.ch_json.specs.Parts.{part, IsPart};
 
     /// The bytes of the span, as they are spelled. The span is a value's or a name's of `text`.
     pub fn part(self, text: &str) -> &str

@@ -2,8 +2,8 @@
 ghost use Rattle.std.specs.Prelude.{◌≡◌, ◌↔◌, ◌++◌, ℕ, List, IfOk, IsTrue, MatchOption};
 ghost use Rattle.ch_base.specs.JsonTree.{plain, string as string_form};
 ghost use Rattle.ch_base.specs.JsonText.{Unescapes};
+ghost use Rattle.ch_base.specs.JsonParts.{part, IsSpelledIn};
 ghost use Rattle.ch_json.specs.Entries.{span_of};
-ghost use Rattle.ch_json.specs.Parts.{part, IsSpelledIn};
 ghost use Rattle.ch_json.specs.Pieces.{IsString};
 
 use crate::pieces::{Piece, piece_at};

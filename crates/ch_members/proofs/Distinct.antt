@@ -8,11 +8,11 @@ use Rattle.std.proofs.lemmas.Map.Text.{is_eq-slice_cmp}
 use Rattle.std.proofs.lemmas.List.{take_all}
 use Rattle.ch_base.specs.JsonTree.{Span, Tree, plain, string, Members, no_members, member}
 use Rattle.ch_base.specs.JsonText.{Unescapes}
-use Rattle.ch_json.specs.Parts.{part, members_of, IsSpelledIn}
-use Rattle.ch_json.specs.Named.{Named}
+use Rattle.ch_base.specs.JsonParts.{part, members_of, IsSpelledIn}
+use Rattle.ch_base.specs.JsonNames.{Named}
+use Rattle.ch_base.specs.ObjectMembers.{AreDistinct}
 use Rattle.ch_json.proofs.OneText.{one_text}
 use Rattle.ch_json.proofs.Unescaped.{string_of_span}
-use Rattle.ch_protocol.specs.ObjectMembers.{AreDistinct}
 
 -- how often the name is in the list
 pub times : List ℕ → List (List ℕ) → ℕ

@@ -4,7 +4,7 @@ use Rattle.std.specs.Prelude.{filter, bytes_eq, ◌||◌}
 use Rattle.std.specs.List.{list_any}
 use Rattle.std.specs.Cmp.Lexicographic.{same_text, other_text}
 use Rattle.std.proofs.lemmas.List.Elements.{filter-append}
-use Rattle.ch_protocol.specs.UserDataText.{first_places}
+use Rattle.ch_base.specs.FirstPlaces.{first_places}
 
 -- whether the text is in the list
 pub has : List ℕ → List (List ℕ) → Bool

@@ -3,10 +3,11 @@ use Rattle.std.proofs.Common.{◌≡◌, inl, inr, ℕ, ◌≤◌, List, [], ◌
 use Rattle.std.specs.Prelude.{Option, None}
 use Rattle.ch_base.specs.JsonTree.{Span, Tree, plain, null, no, yes, number, string, array, object, Members}
 use Rattle.ch_base.specs.JsonText.{Unescapes}
+use Rattle.ch_base.specs.JsonParts.{part, spelled_at, IsSpelledIn}
+use Rattle.ch_base.specs.JsonNames.{Named}
+use Rattle.ch_base.specs.ObjectMembers.{HasNone, HasOne, IsStringOf, HasString, HasOptional, HasSpelled}
 use Rattle.ch_json.specs.Document.{Document}
-use Rattle.ch_json.specs.Named.{Named}
 use Rattle.ch_json.specs.NodeOf.{IsNode, Finds, form_of}
-use Rattle.ch_json.specs.Parts.{part, spelled_at, IsSpelledIn}
 use Rattle.ch_json.specs.declared.node.Node.{Node}
 use Rattle.ch_json.specs.declared.node.Form.{Form}
 use Rattle.ch_json.specs.declared.node.Form.TheVariants as form
@@ -14,7 +15,6 @@ use Rattle.ch_json.specs.declared.node.Found.{Found}
 use Rattle.ch_json.specs.declared.node.Found.TheVariants.{Absent, One, Many}
 use Rattle.ch_json.proofs.Finding.{one_list}
 use Rattle.ch_json.proofs.Forms.{string_from_form}
-use Rattle.ch_protocol.specs.ObjectMembers.{HasNone, HasOne, IsStringOf, HasString, HasOptional, HasSpelled}
 use Rattle.ch_members.specs.declared.array.Array.{Array}
 use Rattle.ch_members.specs.Readings.{Gives, IsOptionalOf, IsObjectNode, ReadsObjectMember, ReadsArray, ReadsArrayMember}
 

@@ -3,9 +3,9 @@ use Rattle.std.proofs.Common.{◌≡◌, inl, inr, ℕ, List, [], ◌∷◌, Boo
 use Rattle.std.specs.Prelude.{Option, None, if◌then◌else◌}
 use Rattle.std.specs.List.{list_all}
 use Rattle.ch_base.specs.JsonTree.{Tree, plain, null, no, yes, number, string, array, object, Items, Members}
-use Rattle.ch_json.specs.Parts.{part, spelled_at}
+use Rattle.ch_base.specs.JsonParts.{part, spelled_at}
+use Rattle.ch_base.specs.ObjectMembers.{IsStringOf, HasString, IsLeftOut, HasOptional, HasSpelled}
 use Rattle.ch_json.proofs.OneText.{one_text}
-use Rattle.ch_protocol.specs.ObjectMembers.{IsStringOf, HasString, IsLeftOut, HasOptional, HasSpelled}
 use Rattle.ch_members.specs.Readings.{Gives, HasObject, HasArray}
 use Rattle.ch_members.specs.ArrayStrings.{AreStrings}
 use Rattle.ch_members.proofs.MembersOfName.{one_value, none_or_one}

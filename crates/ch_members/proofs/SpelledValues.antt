@@ -4,12 +4,12 @@ use Rattle.std.specs.Prelude.{slice_get, codes}
 use Rattle.ch_base.specs.JsonTree.{Span, Tree, plain, null, object, Members, no_members, member}
 use Rattle.ch_base.specs.JsonText.{Spells, SpellsWithin, IsJsonText}
 use Rattle.ch_base.specs.declared.limits.TheConstants.{MAX_DEPTH}
+use Rattle.ch_base.specs.JsonParts.{part, spelled_at, members_of, IsSpelledIn}
+use Rattle.ch_base.specs.ObjectMembers.{IsObjectText, HasOne, HasSpelled}
 use Rattle.ch_json.specs.Levels.{levels, member_levels}
-use Rattle.ch_json.specs.Parts.{part, spelled_at, members_of, IsSpelledIn}
 use Rattle.ch_json.proofs.Alone.{room_fit, spelled_alone, spelled_levels}
 use Rattle.ch_json.proofs.Fronts.{one_tree}
 use Rattle.ch_json.proofs.PartsOf.{top_spelled, member_spelled}
-use Rattle.ch_protocol.specs.ObjectMembers.{IsObjectText, HasOne, HasSpelled}
 
 -- the members of a text's object are one list
 pub same_object : (text : List ℕ) (a b : Members) → IsObjectText text a → IsObjectText text b → a ≡ b

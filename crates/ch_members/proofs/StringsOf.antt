@@ -2,7 +2,7 @@
 use Rattle.std.proofs.Common.{◌≡◌, ℕ, zero, suc, ◌+◌, List, [], ◌∷◌, ◌++◌, take, Some, subst, arith}
 use Rattle.std.specs.Prelude.{slice_get}
 use Rattle.ch_base.specs.JsonTree.{Tree}
-use Rattle.ch_protocol.specs.ObjectMembers.{IsStringOf}
+use Rattle.ch_base.specs.ObjectMembers.{IsStringOf}
 use Rattle.ch_members.specs.ArrayStrings.{AreStrings}
 
 strings_push : (text : List ℕ) (vs : List Tree) (i : ℕ) (v : Tree) (x : List ℕ) (xs : List (List ℕ)) → slice_get vs i ≡ Some v → IsStringOf text v x → AreStrings text (take i vs) xs → AreStrings text (take (suc i) vs) (xs ++ x ∷ [])

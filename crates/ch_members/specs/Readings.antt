@@ -2,11 +2,11 @@
 use Rattle.std.specs.Prelude.{◌≡◌, ℕ, List, length, Option, Some, None}
 use Rattle.ch_base.specs.JsonTree.{Span, Tree, plain, null, array, object, Items, Members}
 use Rattle.ch_base.specs.JsonText.{Spells}
+use Rattle.ch_base.specs.JsonParts.{items_of}
+use Rattle.ch_base.specs.ObjectMembers.{IsObjectText, AreDistinct, HasOne, IsStringOf}
 use Rattle.ch_json.specs.Document.{Document}
 use Rattle.ch_json.specs.NodeOf.{HasTree, IsNode}
-use Rattle.ch_json.specs.Parts.{items_of}
 use Rattle.ch_json.specs.declared.node.Node.{Node}
-use Rattle.ch_protocol.specs.ObjectMembers.{IsObjectText, AreDistinct, HasOne, IsStringOf}
 use Rattle.ch_members.specs.declared.array.Array.{Array}
 
 -- a thing of this kind, or none where there is none

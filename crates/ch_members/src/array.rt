@@ -1,8 +1,8 @@
 //! Arrays of a document.
 ghost use Rattle.std.specs.Prelude.{◌≡◌, ◌<◌, ℕ, List, Some, length, slice_get};
 ghost use Rattle.ch_base.specs.JsonTree.{Tree, Items};
+ghost use Rattle.ch_base.specs.JsonParts.{items_of};
 ghost use Rattle.ch_json.specs.NodeOf.{IsNode};
-ghost use Rattle.ch_json.specs.Parts.{items_of};
 
 use ch_json::{Doc, Node};
 

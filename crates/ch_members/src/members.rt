@@ -1,8 +1,8 @@
 //! The values of an object's members, by their names.
 ghost use Rattle.std.specs.Prelude.{IfOk, IsTrue, ◌↔◌};
 ghost use Rattle.ch_base.specs.JsonTree.{Members};
+ghost use Rattle.ch_base.specs.ObjectMembers.{HasNone, HasString, HasOptional, HasSpelled};
 ghost use Rattle.ch_json.specs.NodeOf.{IsObject};
-ghost use Rattle.ch_protocol.specs.ObjectMembers.{HasNone, HasString, HasOptional, HasSpelled};
 ghost use Rattle.ch_members.specs.Readings.{Gives, IsObjectOf, ReadsObjectMember, ReadsArrayMember};
 
 use crate::array::Array;

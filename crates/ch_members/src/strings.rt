@@ -1,8 +1,8 @@
 //! The strings of an array.
 ghost use Rattle.std.specs.Prelude.{◌≡◌, IfOk};
 ghost use Rattle.ch_base.specs.JsonTree.{Items};
-ghost use Rattle.ch_json.specs.Parts.{items_of};
-ghost use Rattle.ch_protocol.specs.UserDataText.{first_places};
+ghost use Rattle.ch_base.specs.JsonParts.{items_of};
+ghost use Rattle.ch_base.specs.FirstPlaces.{first_places};
 ghost use Rattle.ch_members.specs.Readings.{Gives, IsArrayOf};
 ghost use Rattle.ch_members.specs.ArrayStrings.{AreStrings};
 

@@ -1,8 +1,8 @@
 //! What one value is.
 ghost use Rattle.std.specs.Prelude.{IfOk, List, ℕ};
 ghost use Rattle.ch_base.specs.JsonTree.{Tree};
+ghost use Rattle.ch_base.specs.ObjectMembers.{IsStringOf};
 ghost use Rattle.ch_json.specs.NodeOf.{IsNode, HasNode};
-ghost use Rattle.ch_protocol.specs.ObjectMembers.{IsStringOf};
 ghost use Rattle.ch_members.specs.Readings.{Gives, IsValue, IsOptionalOf, IsObjectNode, ReadsArray};
 
 use crate::array::Array;

@@ -6,9 +6,9 @@ use Rattle.std.specs.List.{list_all}
 use Rattle.std.proofs.lemmas.Bool.{and_parts}
 use Rattle.ch_base.specs.JsonTree.{Span, Tree, no_members, member}
 use Rattle.ch_base.specs.JsonText.{is_unescaped, byte, Chars, String, char_bytes, Unescapes}
-use Rattle.ch_json.specs.Parts.{part}
+use Rattle.ch_base.specs.JsonParts.{part}
+use Rattle.ch_base.specs.ObjectMembers.{AreDistinct, HasNone, HasOne}
 use Rattle.ch_json.proofs.OneText.{one_text}
-use Rattle.ch_protocol.specs.ObjectMembers.{AreDistinct, HasNone, HasOne}
 
 -- a quoted text
 abbrev pub in_quotes : List ℕ → List ℕ → List ℕ

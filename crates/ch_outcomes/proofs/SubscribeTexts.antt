@@ -4,7 +4,7 @@ use Rattle.std.specs.Prelude.{None, codes}
 use Rattle.ch_base.specs.JsonTree.{Span, plain, string, object, Members, no_members, member}
 use Rattle.ch_base.specs.JsonText.{Blanks, Value}
 use Rattle.ch_base.specs.Grammar.{Byte, ◌then◌}
-use Rattle.ch_protocol.specs.ObjectMembers.{IsObjectText}
+use Rattle.ch_base.specs.ObjectMembers.{IsObjectText}
 use Rattle.ch_protocol.specs.ClientMessages.{IsEventText, SubscribeShape}
 use Rattle.ch_protocol.specs.Readings.{Reading, Reads}
 use Rattle.ch_protocol.specs.declared.client_message.ClientMessage.TheVariants.{Subscribe}

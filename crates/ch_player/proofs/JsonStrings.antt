@@ -6,7 +6,6 @@ use Rattle.ch_base.specs.Grammar.{Many}
 use Rattle.ch_base.specs.JsonTree.{Span, Tree, plain, array, object, null, no, yes, number, string}
 use Rattle.ch_base.specs.JsonText.{is_blank, String, Spells, IsJsonString}
 use Rattle.ch_json.specs.Document.{Document}
-use Rattle.ch_json.specs.Parts.{spelled_at}
 use Rattle.ch_json.specs.NodeOf.{HasTree, HasNode, IsNode, form_of}
 use Rattle.std.specs.Prelude.{Result, Err, is_ok}
 use Rattle.ch_json.specs.declared.error.JsonError.{JsonError}
@@ -15,6 +14,7 @@ use Rattle.ch_json.specs.declared.node.Node.{Node}
 use Rattle.ch_json.specs.declared.node.Form.{Form}
 use Rattle.ch_json.specs.declared.node.Form.TheVariants as form
 use Rattle.ch_base.specs.declared.limits.TheConstants.{MAX_DEPTH}
+use Rattle.ch_base.specs.JsonParts.{spelled_at}
 use Rattle.ch_json.proofs.Fronts.{one_tree}
 use Rattle.ch_transcript.specs.Obeying.{IsJudged}
 use Rattle.ch_player.specs.JsonString.{is_whole_string}

@@ -5,9 +5,9 @@ use Rattle.std.specs.List.{list_any}
 use Rattle.ch_base.specs.JsonTree.{Tree, plain, number, string, Members}
 use Rattle.ch_base.specs.JsonText.{Unescapes, is_e}
 use Rattle.ch_base.specs.declared.channel.Member.{Member}
-use Rattle.ch_json.specs.Parts.{part}
+use Rattle.ch_base.specs.JsonParts.{part}
+use Rattle.ch_base.specs.ObjectMembers.{IsObjectText, AreDistinct, HasOne, HasSpelled}
 use Rattle.ch_history.specs.Limits.{is_user_id}
-use Rattle.ch_protocol.specs.ObjectMembers.{IsObjectText, AreDistinct, HasOne, HasSpelled}
 use Rattle.ch_protocol.specs.declared.limits.TheConstants.{LONGEST_CHANNEL_DATA}
 
 -- a number without fraction and exponent: no point and no e stands in it

@@ -3,9 +3,9 @@
 use Rattle.std.specs.Prelude.{◌≡◌, ◌⊎◌, ℕ, Bool, ◌||◌, not, List, length, nat_lt, bytes_eq, codes, Result, Ok, Err, MatchBool, if◌then◌else◌}
 use Rattle.ch_base.specs.JsonTree.{Span, object, Members}
 use Rattle.ch_history.specs.ChannelName.{begins, is_good_name}
-use Rattle.ch_protocol.specs.ObjectMembers.{IsObjectText, AreDistinct, HasOne, HasString, HasOptional, HasSpelled}
 use Rattle.ch_history.specs.UserChannels.{is_subscribable}
 use Rattle.ch_base.specs.declared.error_codes.TheConstants.{MALFORMED_MESSAGE, UNKNOWN_EVENT, INVALID_CHANNEL_NAME, MESSAGE_TOO_LONG}
+use Rattle.ch_base.specs.ObjectMembers.{IsObjectText, AreDistinct, HasOne, HasString, HasOptional, HasSpelled}
 use Rattle.ch_protocol.specs.declared.limits.TheConstants.{LONGEST_TEXT, LONGEST_EVENT, LONGEST_BODY}
 use Rattle.ch_protocol.specs.declared.client_message.ClientMessage.{ClientMessage}
 use Rattle.ch_protocol.specs.declared.client_message.ClientMessage.TheVariants.{Ping, Pong, Subscribe, Unsubscribe, SignIn, Say}

@@ -1,4 +1,3 @@
-pub mod ObjectMembers
 pub mod ClientMessages
 pub mod ChannelData
 pub mod UserDataText

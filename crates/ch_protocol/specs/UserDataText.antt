@@ -1,17 +1,13 @@
 -- Who signs in and whom that user watches, as the data of a sign-in tell it (Pusher Channels documentation, "User
 -- authentication" and "Watchlist events").
-use Rattle.std.specs.Prelude.{◌≡◌, ◌⊎◌, ◌≤◌, not, ℕ, List, [], ◌∷◌, length, filter, bytes_eq, IsTrue, Option, Some, None, codes}
+use Rattle.std.specs.Prelude.{◌≡◌, ◌⊎◌, ◌≤◌, ℕ, List, [], ◌∷◌, length, IsTrue, Option, Some, None, codes}
 use Rattle.ch_base.specs.JsonTree.{Span, Tree, array, Items, Members}
-use Rattle.ch_json.specs.Parts.{items_of}
+use Rattle.ch_base.specs.JsonParts.{items_of}
+use Rattle.ch_base.specs.ObjectMembers.{IsObjectText, AreDistinct, HasOne, HasString, IsLeftOut, IsStringOf}
+use Rattle.ch_base.specs.FirstPlaces.{first_places}
 use Rattle.ch_history.specs.Limits.{is_user_id}
-use Rattle.ch_protocol.specs.ObjectMembers.{IsObjectText, AreDistinct, HasOne, HasString, IsLeftOut, IsStringOf}
 use Rattle.ch_protocol.specs.declared.client_message.UserData.{UserData}
 use Rattle.ch_protocol.specs.declared.limits.TheConstants.{LONGEST_WATCHLIST}
-
--- the texts of a list, each at its first place alone
-abbrev pub first_places : List (List ℕ) → List (List ℕ)
-first_places [] = []
-first_places (x ∷ xs) = x ∷ filter (λ y. not (bytes_eq y x)) (first_places xs)
 
 -- the values are strings with these good user ids
 abbrev pub AreIds : List ℕ → List Tree → List (List ℕ) → Type 0

@@ -3,12 +3,12 @@ use Rattle.std.specs.Prelude.{◌≡◌, ◌⊎◌, ◌≤◌, ◌==◌, ℕ, Bo
 use Rattle.std.specs.List.{before_first, after_first}
 use Rattle.ch_base.specs.JsonTree.{Span, Tree, plain, string, array, object, Items, Members}
 use Rattle.ch_base.specs.JsonText.{Unescapes}
-use Rattle.ch_json.specs.Parts.{part, items_of}
+use Rattle.ch_base.specs.JsonParts.{part, items_of}
+use Rattle.ch_base.specs.ObjectMembers.{IsObjectText, AreDistinct, HasNone, HasOne, HasString, HasOptional, IsStringOf}
+use Rattle.ch_base.specs.FirstPlaces.{first_places}
 use Rattle.ch_history.specs.Limits.{is_event_name}
 use Rattle.ch_history.specs.UserChannels.{is_subscribable}
 use Rattle.ch_names.specs.SocketIds.{is_part}
-use Rattle.ch_protocol.specs.ObjectMembers.{IsObjectText, AreDistinct, HasNone, HasOne, HasString, HasOptional, IsStringOf}
-use Rattle.ch_protocol.specs.UserDataText.{first_places}
 use Rattle.ch_requests.specs.declared.limits.TheConstants.{MOST_CHANNELS, MOST_EVENTS}
 use Rattle.ch_requests.specs.declared.request.Route.{Route}
 use Rattle.ch_requests.specs.declared.request.Route.TheVariants.{Events, BatchEvents}

@@ -3,10 +3,10 @@ use Rattle.std.proofs.Common.{◌≡◌, ℕ, List, [], refl, sym, subst, Some}
 use Rattle.std.specs.Prelude.{Option, None, IsUtf8, codes}
 use Rattle.ch_base.specs.JsonTree.{Span, Tree, array, object, Items, Members}
 use Rattle.ch_base.specs.JsonText.{Spells}
+use Rattle.ch_base.specs.ObjectMembers.{IsObjectText, HasOne}
 use Rattle.ch_json.specs.Document.{Document}
 use Rattle.ch_json.specs.NodeOf.{IsNode}
 use Rattle.ch_json.specs.declared.node.Node.{Node}
-use Rattle.ch_protocol.specs.ObjectMembers.{IsObjectText, HasOne}
 use Rattle.ch_members.specs.Readings.{Gives}
 use Rattle.ch_members.proofs.OnlyOne.{array_once}
 use Rattle.ch_members.proofs.SpelledValues.{same_object}

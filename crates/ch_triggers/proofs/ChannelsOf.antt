@@ -5,8 +5,8 @@ use Rattle.std.specs.List.{list_all}
 use Rattle.std.proofs.lemmas.Bool.{and_parts, and_from}
 use Rattle.ch_history.specs.UserChannels.{is_subscribable}
 use Rattle.ch_base.specs.JsonTree.{Span, Tree, array, Items, Members}
+use Rattle.ch_base.specs.ObjectMembers.{HasNone, HasOne}
 use Rattle.ch_members.specs.Readings.{Gives}
-use Rattle.ch_protocol.specs.ObjectMembers.{HasNone, HasOne}
 use Rattle.ch_members.proofs.OnlyOne.{array_once}
 use Rattle.ch_members.specs.ArrayStrings.{AreStrings}
 use Rattle.ch_requests.specs.Triggers.{AreChannels, IsChannelList, HasChannel, HasChannels, HasEither}

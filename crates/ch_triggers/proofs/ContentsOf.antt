@@ -3,8 +3,8 @@ use Rattle.std.proofs.Common.{◌≡◌, ℕ, List, length, refl, sym, ap, ◌�
 use Rattle.std.specs.Prelude.{Option, None, codes}
 use Rattle.ch_base.specs.JsonTree.{Span, Tree, plain, null, no, yes, number, string, array, object, Members}
 use Rattle.ch_base.specs.JsonText.{Unescapes}
-use Rattle.ch_json.specs.Parts.{part, spelled_at}
-use Rattle.ch_protocol.specs.ObjectMembers.{HasOne, IsStringOf}
+use Rattle.ch_base.specs.JsonParts.{part, spelled_at}
+use Rattle.ch_base.specs.ObjectMembers.{HasOne, IsStringOf}
 use Rattle.ch_members.specs.Readings.{Gives}
 use Rattle.ch_members.proofs.MembersOfName.{one_value}
 use Rattle.ch_triggers.specs.Contents.{IsContentOf, HasContent}

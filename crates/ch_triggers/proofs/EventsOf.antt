@@ -2,8 +2,8 @@
 use Rattle.std.proofs.Common.{◌≡◌, ℕ, zero, suc, ◌+◌, ◌≤◌, List, [], ◌∷◌, ◌++◌, length, take, refl, sym, ◌∙◌, subst, Some, arith}
 use Rattle.std.specs.Prelude.{Option, None, slice_get}
 use Rattle.ch_base.specs.JsonTree.{Span, Tree, object, Items, Members}
-use Rattle.ch_json.specs.Parts.{items_of}
-use Rattle.ch_protocol.specs.ObjectMembers.{AreDistinct}
+use Rattle.ch_base.specs.JsonParts.{items_of}
+use Rattle.ch_base.specs.ObjectMembers.{AreDistinct}
 use Rattle.ch_members.specs.Readings.{Gives, IsPlainObject}
 use Rattle.ch_requests.specs.Triggers.{IsEvent, HasChannel, AreEvents, IsEventList}
 use Rattle.ch_requests.specs.declared.trigger.Trigger.{Trigger}

@@ -5,8 +5,8 @@ use Rattle.std.proofs.lemmas.List.Elements.{All-nil, All-cons, All-head, All-tai
 use Rattle.ch_history.specs.UserChannels.{is_subscribable}
 use Rattle.ch_base.specs.JsonTree.{Tree, Members}
 use Rattle.ch_base.specs.JsonText.{Unescapes, IsJsonString}
-use Rattle.ch_protocol.specs.UserDataText.{first_places}
-use Rattle.ch_json.specs.Parts.{part, items_of}
+use Rattle.ch_base.specs.JsonParts.{part, items_of}
+use Rattle.ch_base.specs.FirstPlaces.{first_places}
 use Rattle.ch_requests.specs.Fit.{IsTriggerFit, AreFit}
 use Rattle.ch_requests.specs.Triggers.{AreChannels, HasChannel, HasEither, IsEvent, AreEvents, Triggers, ReadsBody}
 use Rattle.ch_requests.specs.declared.request.Route.{Route}

@@ -3,10 +3,10 @@ use Rattle.std.proofs.Common.{◌≡◌, inl, inr, ℕ, List, [], ◌∷◌, len
 use Rattle.std.specs.Prelude.{Option, None, codes}
 use Rattle.ch_base.specs.JsonTree.{Span, Tree, plain, string, array, object, Items, Members}
 use Rattle.ch_base.specs.JsonText.{Unescapes}
-use Rattle.ch_json.specs.Parts.{part, items_of}
+use Rattle.ch_base.specs.JsonParts.{part, items_of}
+use Rattle.ch_base.specs.ObjectMembers.{HasOne}
+use Rattle.ch_base.specs.FirstPlaces.{first_places}
 use Rattle.ch_json.proofs.OneText.{one_text}
-use Rattle.ch_protocol.specs.ObjectMembers.{HasOne}
-use Rattle.ch_protocol.specs.UserDataText.{first_places}
 use Rattle.ch_members.proofs.MembersOfName.{one_value, none_or_one}
 use Rattle.ch_members.proofs.SpelledValues.{same_object}
 use Rattle.ch_members.proofs.OnlyOne.{member_once, optional_once, array_once, strings_once}

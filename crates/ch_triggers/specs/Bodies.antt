@@ -2,10 +2,10 @@
 use Rattle.std.specs.Prelude.{◌≡◌, ℕ, Bool, true, List, [], ◌∷◌, IsTrue, Option, Some, None, codes}
 use Rattle.ch_base.specs.JsonTree.{Span, Tree, array, object, Items, Members}
 use Rattle.ch_base.specs.JsonText.{Spells}
+use Rattle.ch_base.specs.ObjectMembers.{HasOne, HasString, HasOptional}
 use Rattle.ch_history.specs.Limits.{is_event_name}
 use Rattle.ch_json.specs.Document.{Document}
 use Rattle.ch_json.specs.NodeOf.{HasTree}
-use Rattle.ch_protocol.specs.ObjectMembers.{HasOne, HasString, HasOptional}
 use Rattle.ch_requests.specs.Triggers.{HasChannel, IsEvent, IsEventList, IsSocketId, is_socket_id}
 use Rattle.ch_requests.specs.declared.trigger.Trigger.{Trigger}
 

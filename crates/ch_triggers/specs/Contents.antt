@@ -2,7 +2,7 @@
 use Rattle.std.specs.Prelude.{◌≡◌, ℕ, List, length}
 use Rattle.ch_base.specs.JsonTree.{Span, Tree, plain, string, Members}
 use Rattle.ch_base.specs.JsonText.{Unescapes}
-use Rattle.ch_json.specs.Parts.{part}
+use Rattle.ch_base.specs.JsonParts.{part}
 use Rattle.ch_requests.specs.Triggers.{HasData}
 use Rattle.ch_triggers.specs.declared.content.Content.{Content}
 

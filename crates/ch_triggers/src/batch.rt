@@ -1,8 +1,8 @@
 //! The events of a batch.
 ghost use Rattle.std.specs.Prelude.{IfOk};
 ghost use Rattle.ch_base.specs.JsonTree.{Tree, Items, Members};
+ghost use Rattle.ch_base.specs.JsonParts.{items_of};
 ghost use Rattle.ch_json.specs.NodeOf.{IsNode, IsObject};
-ghost use Rattle.ch_json.specs.Parts.{items_of};
 ghost use Rattle.ch_members.specs.Readings.{Gives, IsValue, IsObjectOf, IsArrayOf};
 ghost use Rattle.ch_requests.specs.Triggers.{AreEvents, IsEventList};
 ghost use Rattle.ch_triggers.specs.Bodies.{HasBatch, IsEventValue};

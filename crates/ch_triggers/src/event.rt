@@ -1,9 +1,9 @@
 //! The event of one object.
 ghost use Rattle.std.specs.Prelude.{◌≡◌, IfOk};
 ghost use Rattle.ch_base.specs.JsonTree.{Members};
+ghost use Rattle.ch_base.specs.ObjectMembers.{AreDistinct};
 ghost use Rattle.ch_json.specs.NodeOf.{IsObject};
 ghost use Rattle.ch_members.specs.Readings.{Gives, IsObjectOf};
-ghost use Rattle.ch_protocol.specs.ObjectMembers.{AreDistinct};
 ghost use Rattle.ch_requests.specs.Triggers.{IsEvent, HasChannel, HasEither};
 ghost use Rattle.ch_triggers.specs.Bodies.{HasEventName, HasSocketId, AreThese, is_socket_or_none};
 

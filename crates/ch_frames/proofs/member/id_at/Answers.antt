@@ -1,6 +1,6 @@
 use Rattle.std.proofs.Common.{◌∙◌, sym, ap, subst}
+use Rattle.ch_base.specs.JsonParts.{part}
 use Rattle.ch_json.specs.Entries.{span_of}
-use Rattle.ch_json.specs.Parts.{part}
 use Rattle.ch_protocol.specs.ChannelData.{IsIdOf}
 use Rattle.ch_members.specs.Readings.{Gives}
 use Rattle.ch_members.proofs.MembersOfName.{string_span}

@@ -1,6 +1,6 @@
 use Rattle.std.proofs.Common.{subst}
 use Rattle.std.specs.Prelude.{codes}
-use Rattle.ch_json.specs.Named.{Named}
+use Rattle.ch_base.specs.JsonNames.{Named}
 use Rattle.ch_protocol.specs.ChannelData.{IsIdOf, HasId}
 use Rattle.ch_members.specs.Readings.{Gives}
 use Rattle.ch_members.proofs.Gives.{on_ok}

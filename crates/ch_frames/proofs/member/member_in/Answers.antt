@@ -1,7 +1,7 @@
 use Rattle.std.proofs.Common.{subst}
 use Rattle.std.specs.Prelude.{codes}
 use Rattle.ch_base.specs.JsonTree.{Members, object as object_form}
-use Rattle.ch_protocol.specs.ObjectMembers.{HasSpelled}
+use Rattle.ch_base.specs.ObjectMembers.{HasSpelled}
 use Rattle.ch_protocol.specs.ChannelData.{HasId}
 use Rattle.ch_members.proofs.Gives.{gives_some, gives_none}
 use Rattle.ch_members.proofs.SpelledValues.{same_object}

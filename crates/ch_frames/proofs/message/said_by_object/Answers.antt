@@ -1,7 +1,7 @@
 use Rattle.std.proofs.Common.{refl, subst, inl, inr}
 use Rattle.std.specs.Prelude.{codes}
 use Rattle.ch_base.specs.JsonTree.{Members, object as object_form}
-use Rattle.ch_protocol.specs.ObjectMembers.{HasString}
+use Rattle.ch_base.specs.ObjectMembers.{HasString}
 use Rattle.ch_protocol.specs.ClientMessages.{SaysEvent, SaysObject, event_of}
 use Rattle.ch_members.specs.Readings.{Gives}
 use Rattle.ch_members.proofs.Gives.{gives_some}

@@ -1,6 +1,6 @@
 use Rattle.std.proofs.Common.{refl}
 use Rattle.std.specs.Prelude.{codes}
-use Rattle.ch_protocol.specs.ObjectMembers.{HasString, HasSpelled}
+use Rattle.ch_base.specs.ObjectMembers.{HasString, HasSpelled}
 use Rattle.ch_members.proofs.Gives.{gives_some, gives_none}
 use Rattle.ch_frames.proofs.ShapesOf.{no_say}
 use Rattle.ch_frames.proofs.shapes.say.Goals as goal

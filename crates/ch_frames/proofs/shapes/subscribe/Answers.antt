@@ -1,5 +1,5 @@
 use Rattle.std.specs.Prelude.{codes}
-use Rattle.ch_protocol.specs.ObjectMembers.{HasString, HasOptional}
+use Rattle.ch_base.specs.ObjectMembers.{HasString, HasOptional}
 use Rattle.ch_members.proofs.Gives.{gives_some, gives_none}
 use Rattle.ch_frames.proofs.ShapesOf.{reads_none, other_string, other_optional, no_subscribe}
 use Rattle.ch_frames.proofs.shapes.subscribe.Goals as goal

@@ -1,5 +1,5 @@
 use Rattle.std.proofs.Common.{sym, subst}
-use Rattle.ch_protocol.specs.ObjectMembers.{HasString}
+use Rattle.ch_base.specs.ObjectMembers.{HasString}
 use Rattle.ch_members.specs.Readings.{Gives}
 use Rattle.ch_frames.specs.Ids.{HasGoodId}
 use Rattle.ch_members.proofs.Gives.{gives_some}

@@ -1,5 +1,5 @@
 use Rattle.std.proofs.Common.{sym, subst}
-use Rattle.ch_json.specs.Parts.{items_of}
+use Rattle.ch_base.specs.JsonParts.{items_of}
 use Rattle.ch_protocol.specs.UserDataText.{AreIds}
 use Rattle.ch_members.specs.Readings.{Gives}
 use Rattle.ch_members.specs.ArrayStrings.{AreStrings}

@@ -1,9 +1,10 @@
 use Rattle.std.proofs.Common.{◌≤◌, ◌∙◌, length, ap, subst, inl, inr, arith}
+use Rattle.ch_base.specs.JsonParts.{items_of}
+use Rattle.ch_base.specs.FirstPlaces.{first_places}
 use Rattle.ch_json.specs.NodeOf.{IsNode}
-use Rattle.ch_json.specs.Parts.{items_of}
 use Rattle.ch_json.proofs.Forms.{array_from_form}
 use Rattle.ch_protocol.specs.declared.limits.TheConstants.{LONGEST_WATCHLIST}
-use Rattle.ch_protocol.specs.UserDataText.{AreIds, first_places}
+use Rattle.ch_protocol.specs.UserDataText.{AreIds}
 use Rattle.ch_members.proofs.Gives.{gives_some, gives_none}
 use Rattle.ch_members.proofs.MembersOfName.{null_from_form}
 use Rattle.ch_frames.proofs.Watchlists.{no_watchlist, too_long, not_ids}

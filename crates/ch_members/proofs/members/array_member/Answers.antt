@@ -1,5 +1,5 @@
 use Rattle.std.proofs.Common.{subst}
-use Rattle.ch_json.specs.Named.{Named}
+use Rattle.ch_base.specs.JsonNames.{Named}
 use Rattle.ch_members.proofs.MembersOfName.{reads_array, not_one}
 use Rattle.ch_members.proofs.members.array_member.Goals as goal
 

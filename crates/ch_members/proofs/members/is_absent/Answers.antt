@@ -1,5 +1,5 @@
 use Rattle.std.proofs.Common.{refl, subst}
-use Rattle.ch_json.specs.Named.{Named}
+use Rattle.ch_base.specs.JsonNames.{Named}
 use Rattle.ch_members.proofs.MembersOfName.{not_absent}
 use Rattle.ch_members.proofs.members.is_absent.Goals as goal
 

@@ -1,6 +1,6 @@
 use Rattle.std.proofs.Common.{subst, inl}
-use Rattle.ch_json.specs.Named.{Named}
-use Rattle.ch_protocol.specs.ObjectMembers.{HasOptional}
+use Rattle.ch_base.specs.JsonNames.{Named}
+use Rattle.ch_base.specs.ObjectMembers.{HasOptional}
 use Rattle.ch_members.specs.Readings.{Gives, IsOptionalOf}
 use Rattle.ch_members.proofs.Gives.{on_ok}
 use Rattle.ch_members.proofs.MembersOfName.{gives_optional, many_no_optional}

@@ -1,6 +1,6 @@
 use Rattle.std.proofs.Common.{subst, sym, ap, ◌∙◌, inl, inr}
-use Rattle.ch_json.specs.Named.{Named}
-use Rattle.ch_json.specs.Parts.{part}
+use Rattle.ch_base.specs.JsonParts.{part}
+use Rattle.ch_base.specs.JsonNames.{Named}
 use Rattle.ch_members.proofs.MembersOfName.{many_no_spelling}
 use Rattle.ch_members.proofs.members.spelled_member.Goals as goal
 

@@ -5,9 +5,9 @@ use Rattle.std.specs.Cmp.Lexicographic.{slice_cmp}
 use Rattle.std.specs.BTreeMap.{is_at}
 use Rattle.ch_base.specs.JsonTree.{Span, Tree, object as object_form}
 use Rattle.ch_base.specs.JsonText.{Unescapes}
+use Rattle.ch_base.specs.JsonParts.{part, members_of}
 use Rattle.ch_json.specs.Entries.{span_of}
 use Rattle.ch_json.specs.NodeOf.{IsNode, form_of}
-use Rattle.ch_json.specs.Parts.{part, members_of}
 use Rattle.ch_json.specs.declared.node.Form.TheVariants.{Object}
 use Rattle.ch_json.proofs.Lists.{inside_some, some_on}
 use Rattle.ch_json.proofs.Finding.{object_strings}

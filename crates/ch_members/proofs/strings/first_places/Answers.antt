@@ -2,7 +2,7 @@ use Rattle.std.proofs.Common.{◌≡◌, ◌+◌, ◌<◌, ◌∙◌, ℕ, List,
 use Rattle.std.specs.Prelude.{bytes_eq}
 use Rattle.std.specs.List.{list_any}
 use Rattle.std.proofs.lemmas.List.{take_more}
-use Rattle.ch_protocol.specs.UserDataText.{first_places}
+use Rattle.ch_base.specs.FirstPlaces.{first_places}
 use Rattle.ch_members.proofs.FirstPlaces.{with_new, first_places_push, is_new, is_there}
 use Rattle.ch_members.proofs.strings.first_places.Goals as goal
 use Rattle.ch_members.proofs.strings.first_places.Goals.{then-not-contains+in_ok-copy+in_ok-push, else-not-contains}

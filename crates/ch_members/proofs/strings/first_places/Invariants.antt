@@ -1,5 +1,5 @@
 use Rattle.std.proofs.Common.{◌≡◌, take}
-use Rattle.ch_protocol.specs.UserDataText.{first_places}
+use Rattle.ch_base.specs.FirstPlaces.{first_places}
 use Rattle.ch_members.proofs.strings.first_places.Given as goal
 
 abbrev pub invariant-loop-text : goal.invariant-loop-text

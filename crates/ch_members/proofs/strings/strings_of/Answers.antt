@@ -1,9 +1,9 @@
 use Rattle.std.proofs.Common.{◌+◌, ◌<◌, ◌≤◌, List, length, take, sym, subst, arith}
 use Rattle.std.proofs.lemmas.List.{take_all}
 use Rattle.ch_base.specs.JsonTree.{Tree}
-use Rattle.ch_json.specs.Parts.{items_of}
+use Rattle.ch_base.specs.JsonParts.{items_of}
+use Rattle.ch_base.specs.ObjectMembers.{IsStringOf}
 use Rattle.ch_json.proofs.Lists.{inside_some}
-use Rattle.ch_protocol.specs.ObjectMembers.{IsStringOf}
 use Rattle.ch_members.specs.ArrayStrings.{AreStrings}
 use Rattle.ch_members.proofs.Gives.{gives_some, gives_none}
 use Rattle.ch_members.proofs.StringsOf.{strings_more, string_at_place}

@@ -1,6 +1,6 @@
 use Rattle.std.proofs.Common.{take}
 use Rattle.ch_base.specs.JsonTree.{Items}
-use Rattle.ch_json.specs.Parts.{items_of}
+use Rattle.ch_base.specs.JsonParts.{items_of}
 use Rattle.ch_members.specs.Readings.{IsArrayOf}
 use Rattle.ch_members.specs.ArrayStrings.{AreStrings}
 use Rattle.ch_members.proofs.strings.strings_of.Given as goal

@@ -1,6 +1,6 @@
 use Rattle.std.proofs.Common.{ap, ◌∙◌, length, subst}
+use Rattle.ch_base.specs.JsonParts.{items_of}
 use Rattle.ch_json.specs.NodeOf.{IsNode, form_of}
-use Rattle.ch_json.specs.Parts.{items_of}
 use Rattle.ch_json.proofs.Forms.{array_from_form}
 use Rattle.ch_members.proofs.values.array_at.Goals as goal
 

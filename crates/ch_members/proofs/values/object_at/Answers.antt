@@ -1,6 +1,6 @@
 use Rattle.std.proofs.Common.{refl, ap, ◌∙◌, length}
+use Rattle.ch_base.specs.JsonParts.{members_of}
 use Rattle.ch_json.specs.NodeOf.{form_of}
-use Rattle.ch_json.specs.Parts.{members_of}
 use Rattle.ch_json.proofs.Forms.{object_from_form}
 use Rattle.ch_members.proofs.values.object_at.Goals as goal
 

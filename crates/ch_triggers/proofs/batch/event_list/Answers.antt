@@ -1,5 +1,5 @@
 use Rattle.std.proofs.Common.{◌≤◌, length, arith}
-use Rattle.ch_json.specs.Parts.{items_of}
+use Rattle.ch_base.specs.JsonParts.{items_of}
 use Rattle.ch_members.specs.Readings.{Gives}
 use Rattle.ch_members.proofs.Gives.{on_ok}
 use Rattle.ch_requests.specs.Triggers.{AreEvents, IsEventList}

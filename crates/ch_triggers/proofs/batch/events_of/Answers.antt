@@ -1,7 +1,7 @@
 use Rattle.std.proofs.Common.{◌+◌, ◌<◌, ◌≤◌, List, length, take, sym, subst, arith}
 use Rattle.std.proofs.lemmas.List.{take_all}
 use Rattle.ch_base.specs.JsonTree.{Tree}
-use Rattle.ch_json.specs.Parts.{items_of}
+use Rattle.ch_base.specs.JsonParts.{items_of}
 use Rattle.ch_json.proofs.Lists.{inside_some}
 use Rattle.ch_members.proofs.Gives.{gives_some, gives_none}
 use Rattle.ch_requests.specs.Triggers.{AreEvents}

@@ -1,8 +1,8 @@
 use Rattle.std.proofs.Common.{◌≡◌, ◌≤◌, ◌∙◌, length, true, sym, ap, arith}
 use Rattle.std.specs.List.{list_all}
+use Rattle.ch_base.specs.JsonParts.{items_of}
+use Rattle.ch_base.specs.FirstPlaces.{first_places}
 use Rattle.ch_history.specs.UserChannels.{is_subscribable}
-use Rattle.ch_json.specs.Parts.{items_of}
-use Rattle.ch_protocol.specs.UserDataText.{first_places}
 use Rattle.ch_members.specs.ArrayStrings.{AreStrings}
 use Rattle.ch_members.proofs.Gives.{gives_some, gives_none}
 use Rattle.ch_members.proofs.OnlyOne.{strings_once}

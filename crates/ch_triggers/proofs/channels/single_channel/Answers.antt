@@ -1,7 +1,7 @@
 use Rattle.std.proofs.Common.{◌≡◌, ◌∙◌, List, ℕ, [], ◌∷◌, ◌++◌, true, sym, ap}
 use Rattle.std.specs.Prelude.{codes}
+use Rattle.ch_base.specs.ObjectMembers.{HasString}
 use Rattle.ch_history.specs.UserChannels.{is_subscribable}
-use Rattle.ch_protocol.specs.ObjectMembers.{HasString}
 use Rattle.ch_members.proofs.Gives.{gives_some, gives_none}
 use Rattle.ch_members.proofs.OnlyOne.{member_once}
 use Rattle.ch_triggers.proofs.channels.single_channel.Goals as goal

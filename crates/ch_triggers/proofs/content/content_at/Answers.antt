@@ -1,6 +1,6 @@
 use Rattle.std.proofs.Common.{◌∙◌, sym, ap}
-use Rattle.ch_json.specs.Parts.{part}
-use Rattle.ch_protocol.specs.ObjectMembers.{IsStringOf}
+use Rattle.ch_base.specs.JsonParts.{part}
+use Rattle.ch_base.specs.ObjectMembers.{IsStringOf}
 use Rattle.ch_members.proofs.Gives.{gives_some, gives_none}
 use Rattle.ch_triggers.proofs.ContentsOf.{content_is, content_string}
 use Rattle.ch_triggers.proofs.content.content_at.Goals as goal

@@ -1,7 +1,7 @@
 use Rattle.std.proofs.Common.{◌≡◌, ◌∙◌, true, sym, ap}
 use Rattle.std.specs.Prelude.{codes}
+use Rattle.ch_base.specs.ObjectMembers.{HasString}
 use Rattle.ch_history.specs.Limits.{is_event_name}
-use Rattle.ch_protocol.specs.ObjectMembers.{HasString}
 use Rattle.ch_members.proofs.Gives.{gives_some, gives_none}
 use Rattle.ch_members.proofs.OnlyOne.{member_once}
 use Rattle.ch_triggers.proofs.event.event_member.Goals as goal

@@ -1,6 +1,6 @@
 use Rattle.std.proofs.Common.{refl}
 use Rattle.std.specs.Prelude.{codes}
-use Rattle.ch_protocol.specs.ObjectMembers.{HasOptional}
+use Rattle.ch_base.specs.ObjectMembers.{HasOptional}
 use Rattle.ch_members.proofs.Gives.{gives_some, gives_none}
 use Rattle.ch_triggers.specs.Contents.{HasContent}
 use Rattle.ch_triggers.specs.Bodies.{HasEventName, HasSocketId}

@@ -1,6 +1,6 @@
 use Rattle.std.proofs.Common.{◌≡◌, ◌∙◌, true, sym, ap}
 use Rattle.std.specs.Prelude.{codes}
-use Rattle.ch_protocol.specs.ObjectMembers.{HasOptional}
+use Rattle.ch_base.specs.ObjectMembers.{HasOptional}
 use Rattle.ch_members.proofs.Gives.{gives_some, gives_none}
 use Rattle.ch_members.proofs.OnlyOne.{optional_once}
 use Rattle.ch_triggers.specs.Bodies.{is_socket_or_none}

@@ -2,8 +2,8 @@ use Rattle.std.proofs.Common.{arith, refl, sym, subst, ap, ◌∙◌, ◌≡◌,
 use Rattle.std.proofs.lemmas.List.{length-map}
 use Rattle.ch_base.specs.JsonTree.{Span, Tree, plain, string, object, Members}
 use Rattle.ch_base.specs.JsonText.{Unescapes}
+use Rattle.ch_base.specs.JsonParts.{part, members_of, names_of, values_of}
 use Rattle.ch_json.specs.Entries.{span_of}
-use Rattle.ch_json.specs.Parts.{part, members_of, names_of, values_of}
 use Rattle.ch_json.specs.Pieces.{IsString}
 use Rattle.ch_json.specs.declared.node.Form.TheVariants.{Object}
 use Rattle.ch_json.proofs.Lists.{inside_some, some_on}

@@ -2,7 +2,7 @@ use Rattle.std.proofs.Common.{arith, sym, subst, ap, ◌∙◌, ◌≡◌, ◌<�
 use Rattle.ch_json.specs.Document.{Document, Shows}
 use Rattle.ch_json.specs.Entries.{held, span_of}
 use Rattle.ch_base.specs.JsonTree.{plain, string}
-use Rattle.ch_json.specs.Parts.{IsSpelledIn}
+use Rattle.ch_base.specs.JsonParts.{IsSpelledIn}
 use Rattle.ch_json.proofs.PartsOf.{name_spelled}
 use Rattle.ch_json.proofs.Nodes.{node_inside, stores, stored_name, name_inside}
 use Rattle.ch_json.proofs.doc.Doc.key.Goals as goal

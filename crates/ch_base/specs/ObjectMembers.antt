@@ -2,8 +2,8 @@
 use Rattle.std.specs.Prelude.{◌≡◌, ◌⊎◌, ◌≤◌, ℕ, List, [], ◌∷◌, length, Option, Some, None, codes}
 use Rattle.ch_base.specs.JsonTree.{Span, Tree, plain, object, null, string, Members}
 use Rattle.ch_base.specs.JsonText.{Spells, Unescapes}
-use Rattle.ch_json.specs.Named.{Named}
-use Rattle.ch_json.specs.Parts.{part, spelled_at}
+use Rattle.ch_base.specs.JsonNames.{Named}
+use Rattle.ch_base.specs.JsonParts.{part, spelled_at}
 
 -- the text is an object with these members
 abbrev pub IsObjectText : List ℕ → Members → Type 0

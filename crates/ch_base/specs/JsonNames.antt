@@ -2,7 +2,7 @@
 use Rattle.std.specs.Prelude.{◌≡◌, ◌⊎◌, ℕ, List, [], ◌∷◌}
 use Rattle.ch_base.specs.JsonTree.{Tree, Members, no_members, member}
 use Rattle.ch_base.specs.JsonText.{Unescapes}
-use Rattle.ch_json.specs.Parts.{part}
+use Rattle.ch_base.specs.JsonParts.{part}
 
 -- the values, in order, of the members whose unescaped names are this name
 abbrev pub Named : List ℕ → List ℕ → Members → List Tree → Type 0
