@@ -4,13 +4,13 @@ ghost use Rattle.ch_sig.specs.Hmac as spec;
 use sha2::{Digest, Sha256};
 
 /// The length of a block of SHA-256 in bytes.
-const BLOCK: usize = 64;
+pub const BLOCK: usize = 64;
 
 /// The byte that fills the inner pad (RFC 2104, section 2).
-const INNER_PAD: u8 = 0x36;
+pub const INNER_PAD: u8 = 0x36;
 
 /// The byte that fills the outer pad.
-const OUTER_PAD: u8 = 0x5c;
+pub const OUTER_PAD: u8 = 0x5c;
 
 /// An HMAC-SHA256 (RFC 2104) under one secret, of a message that is fed in pieces.
 #[derive(Drop)]
