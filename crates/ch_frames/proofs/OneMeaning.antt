@@ -3,6 +3,7 @@ use Rattle.std.proofs.Common.{◌≡◌, inl, inr, ℕ, List, [], ◌∷◌, len
 use Rattle.std.specs.Prelude.{Option, Err, codes, nat_lt, MatchBool}
 use Rattle.ch_base.specs.JsonTree.{Span, Tree, plain, null, no, yes, number, string, array, object, Items, Members}
 use Rattle.ch_base.specs.declared.channel.Member.{Member}
+use Rattle.ch_base.specs.declared.error_codes.TheConstants.{MESSAGE_TOO_LONG}
 use Rattle.ch_base.specs.JsonParts.{part, items_of}
 use Rattle.ch_base.specs.ObjectMembers.{HasOne, HasString, IsLeftOut, HasOptional, HasSpelled}
 use Rattle.ch_base.specs.FirstPlaces.{first_places}
@@ -115,7 +116,7 @@ object_once text a b (inr (none, e)) (inr (none2, f)) = e ∙ sym f
 pub one_verdict : (text : List ℕ) (a b : Verdict) → Says text a → Says text b → a ≡ b
 one_verdict text a b h k = test (nat_lt LONGEST_TEXT (length text)) h k
   where
-    test : (long : Bool) → MatchBool long (a ≡ Err 4318) (SaysObject text a) → MatchBool long (b ≡ Err 4318) (SaysObject text b) → a ≡ b
+    test : (long : Bool) → MatchBool long (a ≡ Err MESSAGE_TOO_LONG) (SaysObject text a) → MatchBool long (b ≡ Err MESSAGE_TOO_LONG) (SaysObject text b) → a ≡ b
     test true e f = e ∙ sym f
     test false e f = object_once text a b e f
 

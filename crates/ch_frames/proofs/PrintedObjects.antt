@@ -6,6 +6,7 @@ use Rattle.std.specs.Cmp.Lexicographic.{other_text}
 use Rattle.ch_base.specs.Escape.{escaped_byte, quoted}
 use Rattle.ch_base.specs.declared.frame.Frame.{Frame}
 use Rattle.ch_base.specs.declared.frame.Frame.TheVariants.{Opened, Error, Ping, Pong, Succeeded, Present, Added, Removed, Event, Miss, SignedIn, Watch, Kill}
+use Rattle.ch_base.specs.declared.error_codes.TheConstants.{UNAUTHORIZED}
 use Rattle.ch_base.specs.ErrorTexts.{error_text}
 use Rattle.ch_base.specs.Events.{connection_event, channel_event, member_event, bare_event}
 use Rattle.ch_base.specs.PresenceData.{roster, member_added_data, member_removed_data}
@@ -141,4 +142,4 @@ printed_object (Event channel event body (Some user_id)) start (v, h) = member_t
 printed_object (Miss channel) start h = bare_told (codes "pusher:cache_miss") channel
 printed_object (SignedIn user_data) start h = connection_told (codes "pusher:signin_success") (codes "{\"user_data\":" ++ quoted user_data ++ codes "}") (signed_in_body user_data)
 printed_object (Watch online user_id) start h = connection_told (codes "pusher_internal:watchlist_events") (watchlist_change online user_id) (change_body online user_id)
-printed_object Kill start h = connection_told (codes "pusher:error") (error_text_of 4009) (error_body 4009 (omega arith))
+printed_object Kill start h = connection_told (codes "pusher:error") (error_text_of UNAUTHORIZED) (error_body UNAUTHORIZED (omega arith))

@@ -5,12 +5,14 @@ use Rattle.std.proofs.lemmas.Bool.Decides.{nat_tests}
 use Rattle.ch_base.specs.JsonTree.{Members}
 use Rattle.ch_base.specs.JsonText.{IsJsonText}
 use Rattle.ch_base.specs.ObjectMembers.{IsObjectText}
+use Rattle.ch_base.specs.declared.error_codes.TheConstants.{INVALID_CHANNEL_NAME, MESSAGE_TOO_LONG}
 use Rattle.ch_history.specs.ChannelName.{is_good_name}
 use Rattle.ch_history.specs.Limits.{is_event_name}
 use Rattle.ch_history.specs.UserChannels.{is_subscribable}
 use Rattle.ch_protocol.specs.ClientMessages.{Verdict, ClientEvent, ping, pong, subscribe, unsubscribe, sign_in, client, unknown, event_of, SubscribeShape, UnsubscribeShape, SignInShape, SayShape, checked, Shaped, SaysEvent, SaysObject}
 use Rattle.ch_protocol.specs.declared.client_message.ClientMessage.{ClientMessage}
 use Rattle.ch_protocol.specs.declared.client_message.ClientMessage.TheVariants.{Ping, Pong, Subscribe, Unsubscribe, SignIn, Say}
+use Rattle.ch_protocol.specs.declared.limits.TheConstants.{LONGEST_EVENT, LONGEST_BODY}
 use Rattle.ch_frames.specs.declared.refused.Refused.{Refused}
 use Rattle.ch_frames.specs.declared.refused.Refused.TheVariants.{Code, Memory}
 use Rattle.ch_members.specs.Readings.{Gives}
@@ -42,11 +44,11 @@ abbrev IsCodeIf : Verdict → Type 0
 IsCodeIf (Ok m) = Unit {0}
 IsCodeIf (Err c) = IsCode c
 
-name_code : (b : Bool) (m : ClientMessage) → IsCodeIf (if b then Ok m else Err 4312)
+name_code : (b : Bool) (m : ClientMessage) → IsCodeIf (if b then Ok m else Err INVALID_CHANNEL_NAME)
 name_code true m = tt
 name_code false m = inr (inr (inl refl))
 
-say_code : (a b : Bool) (m : ClientMessage) → IsCodeIf (if a then Err 4312 else (if b then Err 4318 else Ok m))
+say_code : (a b : Bool) (m : ClientMessage) → IsCodeIf (if a then Err INVALID_CHANNEL_NAME else (if b then Err MESSAGE_TOO_LONG else Ok m))
 say_code true b m = inr (inr (inl refl))
 say_code false true m = inr (inr (inr refl))
 say_code false false m = tt
@@ -57,7 +59,7 @@ checked_code Pong = tt
 checked_code (Subscribe c a d) = name_code (is_subscribable c) (Subscribe c a d)
 checked_code (Unsubscribe c) = name_code (is_subscribable c) (Unsubscribe c)
 checked_code (SignIn a u) = tt
-checked_code (Say c e b) = say_code (not (is_good_name c)) (nat_lt 200 (length e) || nat_lt 10240 (length b)) (Say c e b)
+checked_code (Say c e b) = say_code (not (is_good_name c)) (nat_lt LONGEST_EVENT (length e) || nat_lt LONGEST_BODY (length b)) (Say c e b)
 
 shaped_code : (P : ClientMessage → Type 0) (v : Verdict) → Shaped P v → IsCodeIf v
 shaped_code P v (inl (m, s, e)) = subst IsCodeIf (sym e) (checked_code m)
@@ -92,21 +94,21 @@ abbrev Shows : ClientMessage → Type 0
 Shows (Say c e b) = (1 ≤ length e) × IsJsonText b
 Shows _ = Unit {0}
 
-good_name : (c : List ℕ) (a d : Option (List ℕ)) (b : Bool) → b ≡ is_subscribable c → IsGoodIf (if b then Ok (Subscribe c a d) else Err 4312)
+good_name : (c : List ℕ) (a d : Option (List ℕ)) (b : Bool) → b ≡ is_subscribable c → IsGoodIf (if b then Ok (Subscribe c a d) else Err INVALID_CHANNEL_NAME)
 good_name c a d true e = sym e
 good_name c a d false e = tt
 
-good_leave : (c : List ℕ) (b : Bool) → b ≡ is_subscribable c → IsGoodIf (if b then Ok (Unsubscribe c) else Err 4312)
+good_leave : (c : List ℕ) (b : Bool) → b ≡ is_subscribable c → IsGoodIf (if b then Ok (Unsubscribe c) else Err INVALID_CHANNEL_NAME)
 good_leave c true e = sym e
 good_leave c false e = tt
 
-good_length : (e : List ℕ) (x : Bool) → 1 ≤ length e → false ≡ (nat_lt 200 (length e) || x) → is_event_name e ≡ true
+good_length : (e : List ℕ) (x : Bool) → 1 ≤ length e → false ≡ (nat_lt LONGEST_EVENT (length e) || x) → is_event_name e ≡ true
 good_length e x le h = grind (arith, nat_tests)
 
-good_say : (c e b : List ℕ) (good long : Bool) → good ≡ is_good_name c → long ≡ (nat_lt 200 (length e) || nat_lt 10240 (length b)) → Shows (Say c e b) → IsGoodIf (if not good then Err 4312 else (if long then Err 4318 else Ok (Say c e b)))
+good_say : (c e b : List ℕ) (good long : Bool) → good ≡ is_good_name c → long ≡ (nat_lt LONGEST_EVENT (length e) || nat_lt LONGEST_BODY (length b)) → Shows (Say c e b) → IsGoodIf (if not good then Err INVALID_CHANNEL_NAME else (if long then Err MESSAGE_TOO_LONG else Ok (Say c e b)))
 good_say c e b false long f g h = tt
 good_say c e b true true f g h = tt
-good_say c e b true false f g h = (sym f, good_length e (nat_lt 10240 (length b)) h.0 g, h.1)
+good_say c e b true false f g h = (sym f, good_length e (nat_lt LONGEST_BODY (length b)) h.0 g, h.1)
 
 checked_good : (m : ClientMessage) → Shows m → IsGoodIf (checked m)
 checked_good Ping h = tt
@@ -114,7 +116,7 @@ checked_good Pong h = tt
 checked_good (Subscribe c a d) h = good_name c a d (is_subscribable c) refl
 checked_good (Unsubscribe c) h = good_leave c (is_subscribable c) refl
 checked_good (SignIn a u) h = tt
-checked_good (Say c e b) h = good_say c e b (is_good_name c) (nat_lt 200 (length e) || nat_lt 10240 (length b)) refl refl h
+checked_good (Say c e b) h = good_say c e b (is_good_name c) (nat_lt LONGEST_EVENT (length e) || nat_lt LONGEST_BODY (length b)) refl refl h
 
 shaped_good : (P : ClientMessage → Type 0) → ((m : ClientMessage) → P m → Shows m) → (v : Verdict) → Shaped P v → IsGoodIf v
 shaped_good P f v (inl (m, s, e)) = subst IsGoodIf (sym e) (checked_good m (f m s))
