@@ -25,7 +25,7 @@ pub fn user_id(id: &str) -> Result<(), NameFault>
     check_length(id, MAX_USER_ID)
 }
 
-/// Whether a user may have this id: 1 to 128 bytes.
+/// Whether a user may have this id: 1 to `MAX_USER_ID` bytes.
 pub fn is_user_id(id: &str) -> bool
     ensures { result ≡ is_user_id id.now }
 {

@@ -1,9 +1,9 @@
 //! Requests to the HTTP API: what its definitions are about, and the definitions (Pusher Channels documentation, HTTP
 //! API; RFC 9112).
 //!
-//! A crate of definitions, with no body of the program but the method of a route. `specs/` says which bytes are which request, which request is
-//! authorized, which events a body triggers, which calls on shards a request asks for, and what it and a handshake are
-//! answered.
+//! A crate of definitions, with no body of the program but the method of a route. `specs/` says which
+//! bytes are which request, which request is authorized, which events a body triggers, which calls on
+//! shards a request asks for, and what it and a handshake are answered.
 #![tactic(auto)]
 
 mod examples;
