@@ -2,6 +2,7 @@
 use Rattle.std.proofs.Common.{◌≡◌, ◌⊎◌, inl, inr, ℕ, List, [], ◌∷◌, length, get_or, ap, sym, subst, refl, ◌∙◌}
 use Rattle.std.specs.Prelude.{All}
 use Rattle.std.specs.Option.{option_to_list}
+use Rattle.ch_base.specs.declared.error_codes.TheConstants.{OUT_OF_MEMORY}
 use Rattle.ch_config.specs.declared.config.Config.{Config}
 use Rattle.ch_desk.specs.OwnEntries.{Makes}
 use Rattle.ch_desk.specs.Views.{DeskView, IsDeskOf, MayAsk}
@@ -73,7 +74,7 @@ holds_nothing waits (ask ∷ asks) user_data none awaits = cc
 
 pub hears_text : (config : Config) (now : ℕ) (text : List ℕ) (old : AtDesk) (mid : Kept) (new : AtDesk) (hears : Heard) (response : Response)
     → ((start number : ℕ) (asks : List SettledAsk) → IsSession old.session start number asks
-    → (hears ≡ heard.Refuse 4329) ⊎ HearsText (known config start number asks now) text mid.waits hears)
+    → (hears ≡ heard.Refuse OUT_OF_MEMORY) ⊎ HearsText (known config start number asks now) text mid.waits hears)
     → Awaits mid.waits 0 (asks_of hears)
     → ((start number : ℕ) (asks : List SettledAsk) → IsSession old.session start number asks → IsSession mid start number asks)
     → mid ≡ record old.session { waits = mid.waits; quiet = quiet_from now }

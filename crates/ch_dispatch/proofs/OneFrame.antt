@@ -10,6 +10,7 @@ use Rattle.ch_base.specs.declared.channel.ChanCall.TheVariants as chan_call
 use Rattle.ch_base.specs.declared.channel.Member.{Member}
 use Rattle.ch_base.specs.declared.frame.Frame.TheVariants.{Kill, Error, Succeeded, SignedIn, Pong as PongFrame}
 use Rattle.ch_base.specs.declared.user.UserCall.{UserCall}
+use Rattle.ch_base.specs.declared.error_codes.TheConstants.{ALREADY_SIGNED_IN, ALREADY_SUBSCRIBED, CHANNEL_FULL, CLIENT_EVENT_REFUSED, INVALID_CHANNEL_DATA, INVALID_SIGNATURE, INVALID_USER_DATA, NOT_SUBSCRIBED, OUT_OF_MEMORY, RATE_LIMIT_REACHED, TOO_MANY_SUBSCRIPTIONS, UNAUTHORIZED}
 use Rattle.ch_protocol.specs.Asks.{Asked, ComesOf}
 use Rattle.ch_protocol.specs.ClientMessages.{Verdict}
 use Rattle.ch_protocol.specs.Sessions.{Session, judged_as, outcome, chan_outcome, user_outcome, subscribes, signs_in_as, watch_ask, sign_in_ask, ask_on}
@@ -72,14 +73,14 @@ succeeded channel = plainly (heard.Reply (Succeeded channel)) (λ e. cc)
 
 subscribes_plain : (s : Session) (channel : List ℕ) (auth channel_data : Option (List ℕ)) (member : Option Member) (o : Option (List ℕ))
     → Plain (subscribes s channel auth channel_data member o)
-subscribes_plain s channel auth channel_data member (Some id) = either _ (succeeded channel) (refused 4315)
+subscribes_plain s channel auth channel_data member (Some id) = either _ (succeeded channel) (refused INVALID_SIGNATURE)
 subscribes_plain s channel auth channel_data member None =
-    either _ (refused 4319) (either _ (refused 4316) (either _ (refused 4315) (asked_one s channel (chan_call.Join s.number channel member s.now))))
+    either _ (refused TOO_MANY_SUBSCRIPTIONS) (either _ (refused INVALID_CHANNEL_DATA) (either _ (refused INVALID_SIGNATURE) (asked_one s channel (chan_call.Join s.number channel member s.now))))
 
 signs_in_plain : (s : Session) (auth user_data : List ℕ) (u : Option UserData) → Plain (signs_in_as s auth user_data u)
-signs_in_plain s auth user_data None = refused 4321
+signs_in_plain s auth user_data None = refused INVALID_USER_DATA
 signs_in_plain s auth user_data (Some u) =
-    either _ (plainly (heard.Ask (sign_in_ask s u.id ∷ map (watch_ask s) u.watchlist)) (watches_are_users s u.watchlist)) (plainly (heard.End 4009) tt)
+    either _ (plainly (heard.Ask (sign_in_ask s u.id ∷ map (watch_ask s) u.watchlist)) (watches_are_users s u.watchlist)) (plainly (heard.End UNAUTHORIZED) tt)
 
 judged_plain : (s : Session) (member : Option Member) (u : Option UserData) (v : Verdict) → Plain (judged_as s member u v)
 judged_plain s member u (Err code) = refused code
@@ -87,9 +88,9 @@ judged_plain s member u (Ok Ping) = plainly (heard.Reply PongFrame) (λ e. cc)
 judged_plain s member u (Ok Pong) = plainly heard.Nothing tt
 judged_plain s member u (Ok (Subscribe channel auth channel_data)) = subscribes_plain s channel auth channel_data member (channel_user channel)
 judged_plain s member u (Ok (Unsubscribe channel)) = either _ (plainly heard.Nothing tt) (asked_one s channel (chan_call.Leave s.number channel s.now))
-judged_plain s member u (Ok (SignIn auth user_data)) = either _ (refused 4322) (signs_in_plain s auth user_data u)
+judged_plain s member u (Ok (SignIn auth user_data)) = either _ (refused ALREADY_SIGNED_IN) (signs_in_plain s auth user_data u)
 judged_plain s member u (Ok (Say channel event body)) =
-    either _ (refused 4317) (either _ (refused 4301) (asked_one s channel (chan_call.Say s.number channel event body s.now)))
+    either _ (refused CLIENT_EVENT_REFUSED) (either _ (refused RATE_LIMIT_REACHED) (asked_one s channel (chan_call.Say s.number channel event body s.now)))
 
 heard_plain : (s : Session) (text user_data : List ℕ) (h : Heard) → IsHeard s text user_data h → IsPlain h
 heard_plain s text user_data h is = elim is [
@@ -116,9 +117,9 @@ silent user_data (suc place) (User shard call ∷ asks) (x ∷ xs) behind users 
     silent_one user_data place shard call asks xs x.came made_so.1 made_so.2 (λ m. silent user_data (suc place + 1) asks xs (omega arith) users m)
 
 chan_few : (answer : ChanAnswer) → IsOneAtMost (frames_of (chan_outcome answer))
-chan_few chan.Already = inr (Error 4313, refl, λ e. cc)
-chan_few chan.Crowded = inr (Error 4320, refl, λ e. cc)
-chan_few chan.NotOn = inr (Error 4314, refl, λ e. cc)
+chan_few chan.Already = inr (Error ALREADY_SUBSCRIBED, refl, λ e. cc)
+chan_few chan.Crowded = inr (Error CHANNEL_FULL, refl, λ e. cc)
+chan_few chan.NotOn = inr (Error NOT_SUBSCRIBED, refl, λ e. cc)
 chan_few chan.Joined = inl refl
 chan_few chan.Left = inl refl
 chan_few (chan.Gone count) = inl refl
@@ -143,7 +144,7 @@ user_few user_data (user.Frames frames) = inl refl
 first_few : (user_data : List ℕ) (came : Made) → IsOneAtMost (frames_of (outcome user_data 0 came))
 first_few user_data (made.Chan answer) = chan_few answer
 first_few user_data (made.User answer) = user_few user_data answer
-first_few user_data made.Memory = inr (Error 4329, refl, λ e. cc)
+first_few user_data made.Memory = inr (Error OUT_OF_MEMORY, refl, λ e. cc)
 
 -- nothing is told behind the first ask
 rest_silent : (user_data : List ℕ) (asks : List Ask) (xs : List Asked) (stop : Bool) → AllUsers asks

@@ -2,6 +2,7 @@
 use Rattle.std.proofs.Common.{◌≡◌, inl, inr, ℕ, ◌≤◌, Bool, true, false, cond, List, [], ◌∷◌, length, ap, sym, subst, refl, ◌∙◌, arith}
 use Rattle.std.specs.Prelude.{Option, Some, None}
 use Rattle.std.specs.Option.{option_to_list}
+use Rattle.ch_base.specs.declared.error_codes.TheConstants.{MALFORMED_MESSAGE}
 use Rattle.ch_base.specs.declared.frame.Frame.TheVariants.{Error}
 use Rattle.ch_config.specs.declared.config.Config.{Config}
 use Rattle.ch_desk.specs.Views.{DeskView}
@@ -62,7 +63,7 @@ heard_text config now message text old new held after desk desk_new response cod
 
 -- a binary message was heard
 pub heard_binary : (config : Config) (now : ℕ) (message : Message) (old new : Kept) (held after : Held) (desk : DeskView) (response : Response) (code : Option ℕ)
-    → message ≡ Binary → response ≡ record { reply = Some (Error 4310); end = None }
+    → message ≡ Binary → response ≡ record { reply = Some (Error MALFORMED_MESSAGE); end = None }
     → ((start number : ℕ) (asks : List SettledAsk) → IsSession old start number asks → IsSession new start number asks)
     → new ≡ record old { quiet = quiet_from now }
     → after ≡ all_delivered held (option_to_list response.reply) → code ≡ response.end
@@ -72,7 +73,7 @@ heard_binary config now message old new held after desk response code is refused
     subst (λ m. HearsMessage config now m (record { session = old; backlog = held }) (record { session = new; backlog = after }) desk desk code) (sym is)
     (record {
       asked = [];
-      outcomes = Refuse 4310 ∷ [];
+      outcomes = Refuse MALFORMED_MESSAGE ∷ [];
       answers = λ start number asks stood. (refl, refl);
       settles = stands;
       calls = Makes-none desk;

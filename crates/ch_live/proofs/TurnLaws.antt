@@ -2,6 +2,7 @@
 use Rattle.std.proofs.Common.{◌≡◌, ◌≢◌, ◌⊎◌, ℕ, List, [], ◌++◌, ap, sym, subst, refl, ◌∙◌, append-nil, inl, inr, arith}
 use Rattle.std.specs.Prelude.{Option, Some, None}
 use Rattle.std.specs.Option.{option_or}
+use Rattle.ch_base.specs.declared.error_codes.TheConstants.{MALFORMED_MESSAGE}
 use Rattle.ch_base.specs.declared.frame.Frame.{Frame}
 use Rattle.ch_base.specs.declared.frame.Frame.TheVariants.{Error}
 use Rattle.ch_dispatch.specs.Laws.{IsOneAtMost}
@@ -36,7 +37,7 @@ few_wait h frames few = elim few [
 -- what was received is answered by one frame at most
 answered : (s : Session) (message : Message) (asked : List Asked) (outcomes : List Settled) → AnswersTo s (Some message) asked outcomes → IsOneAtMost (frames_in outcomes)
 answered s (Text text) asked outcomes a = answered_once s text asked outcomes a
-answered s Binary asked outcomes a = subst (λ os. IsOneAtMost (frames_in os)) (sym a.1) (inr (Error 4310, refl, λ e. cc))
+answered s Binary asked outcomes a = subst (λ os. IsOneAtMost (frames_in os)) (sym a.1) (inr (Error MALFORMED_MESSAGE, refl, λ e. cc))
 
 wait_after : (s : Session) (received : Option Message) (asked : List Asked) (outcomes : List Settled) (h : Held) (kept : List Frame)
     → AnswersTo s received asked outcomes → (kept ≡ []) ⊎ (received ≡ None)

@@ -4,6 +4,7 @@ use Rattle.std.specs.Prelude.{Option, Some, None, MatchBool}
 use Rattle.std.specs.List.{flat_map}
 use Rattle.std.specs.Option.{option_to_list}
 use Rattle.std.proofs.lemmas.List.Elements.{All-cons, All-nil}
+use Rattle.ch_base.specs.declared.error_codes.TheConstants.{OUT_OF_MEMORY, RECONNECT}
 use Rattle.ch_base.specs.declared.frame.Frame.{Frame}
 use Rattle.ch_base.specs.declared.frame.Frame.TheVariants.{Error}
 use Rattle.ch_desk.specs.OwnEntries.{IsAnswered, was_made}
@@ -127,22 +128,22 @@ asks_come number at user_data place (ask ∷ asks) (x ∷ xs) s shards made came
 
 -- ---- memory
 
-memory_tells : (user_data : List ℕ) (place : ℕ) (later : List Settled) (reply : Option Frame) (end : Option ℕ) → reply ≢ Some (Error 4329) → end ≢ Some 4200
+memory_tells : (user_data : List ℕ) (place : ℕ) (later : List Settled) (reply : Option Frame) (end : Option ℕ) → reply ≢ Some (Error OUT_OF_MEMORY) → end ≢ Some RECONNECT
     → option_to_list reply ≡ frames_in (outcome user_data place made.Memory ∷ later) → end ≡ end_in (outcome user_data place made.Memory ∷ later) → ⊥
 memory_tells user_data zero later None end heard served frames ends = cc frames
-memory_tells user_data zero later (Some frame) end heard served frames ends = heard (ap Some (cons_head frame (Error 4329) [] (frames_in later) frames))
+memory_tells user_data zero later (Some frame) end heard served frames ends = heard (ap Some (cons_head frame (Error OUT_OF_MEMORY) [] (frames_in later) frames))
 memory_tells user_data (suc n) later reply end heard served frames ends = served ends
 
 -- the frames and the end that are left after an outcome that doesn't stop
 left_tells : (o : Settled) (later : List Settled) (reply : Option Frame) (end : Option ℕ) → stops o ≡ false → option_to_list reply ≡ frames_in (o ∷ later) → end ≡ end_in (o ∷ later)
-    → reply ≢ Some (Error 4329) → (left : Option Frame) × (option_to_list left ≡ frames_in later) × (end ≡ end_in later) × (left ≢ Some (Error 4329))
+    → reply ≢ Some (Error OUT_OF_MEMORY) → (left : Option Frame) × (option_to_list left ≡ frames_in later) × (end ≡ end_in later) × (left ≢ Some (Error OUT_OF_MEMORY))
 left_tells settled.Nothing later reply end on frames ends heard = (reply, frames, ends, heard)
 left_tells (settled.Reply frame) later None end on frames ends heard = absurd (cc frames)
 left_tells (settled.Reply frame) later (Some f) end on frames ends heard = (None, cons_tail f frame [] (frames_in later) frames, ends, λ e. cc e)
 left_tells (settled.Refuse code) later reply end on frames ends heard = absurd (cc on)
 left_tells (settled.End code) later reply end on frames ends heard = absurd (cc on)
 
-answered_by : (user_data : List ℕ) (place : ℕ) (later : List Settled) (reply : Option Frame) (end : Option ℕ) (ask : Ask) (came : Made) → reply ≢ Some (Error 4329) → end ≢ Some 4200
+answered_by : (user_data : List ℕ) (place : ℕ) (later : List Settled) (reply : Option Frame) (end : Option ℕ) (ask : Ask) (came : Made) → reply ≢ Some (Error OUT_OF_MEMORY) → end ≢ Some RECONNECT
     → option_to_list reply ≡ frames_in (outcome user_data place came ∷ later) → end ≡ end_in (outcome user_data place came ∷ later) → ComesOf ask came
     → ComesOf ask came × (was_made came ≡ true)
 answered_by user_data place later reply end ask made.Memory heard served frames ends comes = absurd (memory_tells user_data place later reply end heard served frames ends)
@@ -152,9 +153,9 @@ answered_by user_data place later reply end ask (made.User a) heard served frame
 -- so were the asks after it, unless it stops them
 rest_answered : (user_data : List ℕ) (place : ℕ) (asks : List Ask) (xs : List Asked) (o : Settled) (reply : Option Frame) (end : Option ℕ) (b : Bool) → stops o ≡ b
     → MatchBool b (xs ≡ []) (AreMadeFrom user_data (place + 1) asks xs)
-    → option_to_list reply ≡ frames_in (o ∷ outcomes_from user_data (place + 1) xs) → end ≡ end_in (o ∷ outcomes_from user_data (place + 1) xs) → reply ≢ Some (Error 4329)
+    → option_to_list reply ≡ frames_in (o ∷ outcomes_from user_data (place + 1) xs) → end ≡ end_in (o ∷ outcomes_from user_data (place + 1) xs) → reply ≢ Some (Error OUT_OF_MEMORY)
     → ((left : Option Frame) → AreMadeFrom user_data (place + 1) asks xs → option_to_list left ≡ frames_in (outcomes_from user_data (place + 1) xs)
-    → end ≡ end_in (outcomes_from user_data (place + 1) xs) → left ≢ Some (Error 4329) → All IsAnswered xs)
+    → end ≡ end_in (outcomes_from user_data (place + 1) xs) → left ≢ Some (Error OUT_OF_MEMORY) → All IsAnswered xs)
     → All IsAnswered xs
 rest_answered user_data place asks xs o reply end true is rest frames ends heard again = subst (All IsAnswered) (sym rest) (All-nil IsAnswered)
 rest_answered user_data place asks xs o reply end false is rest frames ends heard again =
@@ -163,7 +164,7 @@ rest_answered user_data place asks xs o reply end false is rest frames ends hear
 -- where neither a frame nor an end says that there was no memory, each ask was answered
 pub all_answered : (user_data : List ℕ) (place : ℕ) (asks : List Ask) (asked : List Asked) (reply : Option Frame) (end : Option ℕ) → AreMadeFrom user_data place asks asked
     → option_to_list reply ≡ frames_in (outcomes_from user_data place asked) → end ≡ end_in (outcomes_from user_data place asked)
-    → reply ≢ Some (Error 4329) → end ≢ Some 4200 → All IsAnswered asked
+    → reply ≢ Some (Error OUT_OF_MEMORY) → end ≢ Some RECONNECT → All IsAnswered asked
 all_answered user_data place [] asked reply end made frames ends heard served = subst (All IsAnswered) (sym made) (All-nil IsAnswered)
 all_answered user_data place (ask ∷ asks) [] reply end made frames ends heard served = absurd made
 all_answered user_data place (ask ∷ asks) (x ∷ xs) reply end made frames ends heard served =
@@ -193,7 +194,7 @@ does_as number at user_data (heard.Ask asks) asked s shards made came = asks_com
 -- its asks were answered, and it was heard
 pub message_answered : (user_data : List ℕ) (h : Heard) (asked : List Asked) (reply : Option Frame) (end : Option ℕ) → AreMadeFrom user_data 0 (judging.asks_of h) asked
     → option_to_list reply ≡ frames_in (comes_to user_data h asked) → end ≡ end_in (comes_to user_data h asked)
-    → reply ≢ Some (Error 4329) → end ≢ Some 4200 → All IsAnswered asked
+    → reply ≢ Some (Error OUT_OF_MEMORY) → end ≢ Some RECONNECT → All IsAnswered asked
 message_answered user_data heard.Nothing asked reply end made frames ends heard served = subst (All IsAnswered) (sym made) (All-nil IsAnswered)
 message_answered user_data (heard.Reply frame) asked reply end made frames ends heard served = subst (All IsAnswered) (sym made) (All-nil IsAnswered)
 message_answered user_data (heard.Refuse code) asked reply end made frames ends heard served = subst (All IsAnswered) (sym made) (All-nil IsAnswered)
@@ -201,9 +202,9 @@ message_answered user_data (heard.End code) asked reply end made frames ends hea
 message_answered user_data (heard.Ask asks) asked reply end made frames ends heard served = all_answered user_data 0 asks asked reply end made frames ends heard served
 
 pub was_heard : (user_data : List ℕ) (h : Heard) (asked : List Asked) (reply : Option Frame) → option_to_list reply ≡ frames_in (comes_to user_data h asked)
-    → reply ≢ Some (Error 4329) → h ≢ heard.Refuse 4329
+    → reply ≢ Some (Error OUT_OF_MEMORY) → h ≢ heard.Refuse OUT_OF_MEMORY
 was_heard user_data h asked None frames heard same =
-    let e : [] ≡ Error 4329 ∷ [] = frames ∙ ap (λ k. frames_in (comes_to user_data k asked)) same in cc e
+    let e : [] ≡ Error OUT_OF_MEMORY ∷ [] = frames ∙ ap (λ k. frames_in (comes_to user_data k asked)) same in cc e
 was_heard user_data h asked (Some frame) frames heard same =
-    let e : frame ∷ [] ≡ Error 4329 ∷ [] = frames ∙ ap (λ k. frames_in (comes_to user_data k asked)) same in
-    heard (ap Some (cons_head frame (Error 4329) [] [] e))
+    let e : frame ∷ [] ≡ Error OUT_OF_MEMORY ∷ [] = frames ∙ ap (λ k. frames_in (comes_to user_data k asked)) same in
+    heard (ap Some (cons_head frame (Error OUT_OF_MEMORY) [] [] e))
