@@ -1,9 +1,11 @@
 //! The frames that wait for each caller since its last take, with room that is reserved before they come.
 //!
 //! Contracts see an [`Outbox`] as its rows, one for each owner, by `frames_of` and `spare_of`: the frames
-//! that wait for an owner, and for how many more of them there is room. Only `reserve` takes memory.
+//! that wait for an owner, and for how many more of them there is room. Only `reserve` and `reserve_for` take
+//! memory.
 #![tactic(auto)]
 
+mod deliveries;
 mod outbox;
 mod queue;
 

@@ -1,5 +1,5 @@
 -- What a Publish and a client event change is what the definitions say of their entries.
-use Rattle.std.proofs.Common.{◌≡◌, ℕ, Bool, true, false, cond, List, [], ◌∷◌, refl, ap, sym, subst, ◌∙◌, append-nil, Option, Some, MatchBool}
+use Rattle.std.proofs.Common.{◌≡◌, ℕ, Bool, true, false, cond, List, [], ◌∷◌, refl, ap, sym, subst, ◌∙◌, Option, Some, MatchBool}
 use Rattle.ch_base.specs.Growth.{entry}
 use Rattle.ch_base.specs.declared.channel.ChanCall.TheVariants.{Publish, Say}
 use Rattle.ch_base.specs.declared.channel.ChanAnswer.{ChanAnswer}

@@ -1,6 +1,5 @@
 pub mod Lists
 pub mod Owners
-pub mod Rooms
 pub mod Sounds
 pub mod Partings
 pub mod Greetings

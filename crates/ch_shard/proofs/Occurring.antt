@@ -1,5 +1,5 @@
 -- What the webhook events of a call make of the log and of the notices that are held, and what a call without any makes of them.
-use Rattle.std.proofs.Common.{◌≡◌, ◌≤◌, ℕ, Bool, true, false, not, ◌||◌, cond, List, [], ◌∷◌, ◌++◌, Option, Some, None, filter, flat_map, length, refl, ap, ap₂, sym, subst, ◌∙◌, append-nil, arith}
+use Rattle.std.proofs.Common.{◌≡◌, ◌≤◌, ℕ, Bool, true, false, not, ◌||◌, cond, List, [], ◌∷◌, ◌++◌, Option, Some, None, filter, flat_map, length, refl, ap, ap₂, sym, ◌∙◌, append-nil, arith}
 use Rattle.std.specs.List.{list_any}
 use Rattle.std.proofs.lemmas.List.Folds.{list_any-append}
 use Rattle.ch_base.specs.declared.channel.Member.{Member}
@@ -14,7 +14,7 @@ use Rattle.ch_history.specs.Held.{is_due, due, not_due, vacated_events, held_aft
 use Rattle.ch_history.specs.OpenRows.{is_empty}
 use Rattle.ch_history.specs.Presence.{user_in, has_user}
 use Rattle.ch_history.specs.Subscriptions.{on_channel}
-use Rattle.ch_history.specs.Webhooks.{occupied, added, missed, removed, vacated, parting}
+use Rattle.ch_history.specs.Webhooks.{added, missed, removed, vacated}
 use Rattle.ch_history.proofs.Held.{due-after}
 use Rattle.ch_history.proofs.Lists.{neither}
 use Rattle.ch_hooklog.specs.HookLog.{is_occupied, IsOfOneCall}

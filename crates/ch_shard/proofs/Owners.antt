@@ -9,6 +9,7 @@ use Rattle.ch_history.specs.declared.rows.Delivery.{Delivery}
 use Rattle.ch_history.specs.Subscriptions.{on_channel, channels_in}
 use Rattle.ch_history.specs.ChannelName.{is_presence, is_cache}
 use Rattle.ch_history.specs.Presence.{user_in, has_user, rows_in}
+use Rattle.ch_outbox.proofs.Rooms.{OwnsFrame}
 use Rattle.ch_shard.specs.Parts.{Parts, kept_at, join_frames}
 use Rattle.ch_history.specs.Frames.{to, latest_frame, member_added_frames, is_gone, member_removed_of}
 use Rattle.ch_shard.specs.Parting.{others, leave_frames}
@@ -16,9 +17,6 @@ use Rattle.ch_shard.specs.Parting.{others, leave_frames}
 -- an owner is a caller's number
 abbrev pub OwnsSub : Subscription → Type 0
 OwnsSub s = s.owner < 64
-
-abbrev pub OwnsFrame : Delivery → Type 0
-OwnsFrame d = d.owner < 64
 
 pub on_channel_owned : (xs : List Subscription) (c : List ℕ) → All OwnsSub xs → All OwnsSub (on_channel xs c)
 on_channel_owned xs c all = All-filter (λ s. bytes_eq s.channel c) OwnsSub xs all

@@ -1,6 +1,5 @@
 pub mod Sound
 pub mod Told
-pub mod Room
 pub mod Parting
 pub mod Greeting
 pub mod Naming

@@ -1,5 +1,5 @@
 -- The last entries of a history, in brief.
-use Rattle.std.specs.Prelude.{ℕ, ◌-◌, List, drop, length, map}
+use Rattle.std.specs.Prelude.{◌-◌, List, drop, length, map}
 use Rattle.ch_history.specs.declared.limits.TheConstants.{LONGEST_TAIL}
 use Rattle.ch_history.specs.Entries.{ChanEntry, ChanHistory}
 use Rattle.ch_history.specs.Letters.{letter_of}

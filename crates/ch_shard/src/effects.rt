@@ -3,9 +3,8 @@ ghost use Rattle.ch_history.specs.Deliveries.{for_owner};
 ghost use Rattle.ch_history.specs.Held.{due, held_after, hooks_after};
 ghost use Rattle.ch_hooklog.specs.HookLog.{IsOfOneCall};
 ghost use Rattle.ch_outbox.specs.Outbox.{frames_of};
-ghost use Rattle.ch_shard.specs.Room.{HasRoom};
+ghost use Rattle.ch_outbox.specs.Room.{HasRoom};
 
-use crate::deliveries::{deliver, reserve_for};
 use ch_base::{Hook, Memory};
 use ch_history::Delivery;
 use ch_hooklog::HookLog;
@@ -48,7 +47,7 @@ pub fn make_room(
     ensures room_frames { OnOk result (HasRoom outbox.new made.now.frames.items) }
     ensures room_hooks { OnOk result (vec_len made.now.hooks + length (due now log.new.held) ≤ log.new.spare) }
 {
-    reserve_for(outbox, made.frames.as_slice())?;
+    outbox.reserve_for(made.frames.as_slice())?;
     log.reserve(made.hooks.len() as u64 + log.due(now))
 }
 
@@ -64,6 +63,6 @@ pub fn hand_over(outbox: &mut Outbox, log: &mut HookLog, made: Effects, now: u64
     ensures held { log.new.held ≡ held_after now made.hooks.items log.old.held }
 {
     let Effects { frames, hooks } = made;
-    deliver(outbox, frames);
+    outbox.deliver(frames);
     log.make(hooks, now);
 }

@@ -1,7 +1,6 @@
-ghost use Rattle.std.specs.Prelude.{◌≡◌, false, ◌∷◌, [], ◌++◌, IfOk, OnOk, IsTrue};
+ghost use Rattle.std.specs.Prelude.{◌≡◌, false, ◌∷◌, [], ◌++◌, IfOk, OnOk};
 ghost use Rattle.std.specs.Option.{option_copied};
 ghost use Rattle.ch_base.specs.Printed.{is_opened};
-ghost use Rattle.ch_history.specs.ChannelName.{is_good_name};
 ghost use Rattle.ch_history.specs.Deliveries.{delivery};
 ghost use Rattle.ch_history.specs.Frames.{latest_frame};
 ghost use Rattle.ch_history.specs.Subscriptions.{on_channel};
@@ -60,7 +59,6 @@ pub fn tell_latest(
     channel: &Text,
     frames: &mut Vec<Delivery>,
 ) -> Result<(), Memory>
-    requires { IsTrue (is_good_name channel.now) }
     ensures { OnOk result (frames.new.items ≡ frames.old.items ++ latest_news channel.now (option_copied latest.entry) owner socket) }
 {
     if is_cache(channel.as_str()) {
@@ -184,7 +182,6 @@ pub fn log_missed(
     channel: &Text,
     hooks: &mut Vec<Hook>,
 ) -> Result<(), Memory>
-    requires { IsTrue (is_good_name channel.now) }
     ensures { OnOk result (hooks.new.items ≡ hooks.old.items ++ missed channel.now (option_copied latest.entry)) }
 {
     if is_cache(channel.as_str()) && latest.is_none() {

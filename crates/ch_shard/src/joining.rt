@@ -1,7 +1,7 @@
-ghost use Rattle.std.specs.Prelude.{◌≡◌, ◌<◌, ◌&&◌, not, length, nat_le, IfOk, IsTrue, MatchResult, OnOk, OnErr};
+ghost use Rattle.std.specs.Prelude.{◌≡◌, ◌<◌, ◌&&◌, not, length, nat_le, IfOk, MatchResult, OnOk, OnErr};
 ghost use Rattle.std.specs.Option.{option_copied};
 ghost use Rattle.ch_history.specs.Answers.{is_crowded};
-ghost use Rattle.ch_history.specs.ChannelName.{is_good_name, is_presence};
+ghost use Rattle.ch_history.specs.ChannelName.{is_presence};
 ghost use Rattle.ch_history.specs.declared.limits.TheConstants.{MAX_USERS};
 ghost use Rattle.ch_history.specs.Texts.{has_text};
 ghost use Rattle.ch_history.specs.Subscriptions.{on_channel};
@@ -30,7 +30,6 @@ impl Channels {
         now: u64,
     ) -> Result<ChanAnswer, Memory>
         requires caller { caller < 64 }
-        requires name { IsTrue (is_good_name channel.now) }
         requires member { IsMemberOf (is_presence channel.now) (option_copied member) }
         ensures { MatchResult result (λ answer. JoinGives self.old self.new now (newcomer caller socket channel.now (option_copied member.entry)) answer) (λ _. IsUnchanged self.old self.new) }
     {
@@ -78,7 +77,6 @@ impl Channels {
         row: Option<&Present>,
         now: u64,
     ) -> Result<Vec<Delivery>, Memory>
-        requires name { IsTrue (is_good_name channel.now) }
         requires member { IsMemberOf (is_presence channel.now) (option_copied member) }
         requires row { option_copied row ≡ newcomer_row channel.now socket (option_copied member) }
         ensures made { IfOk result (λ made. made.items ≡ join_frames self.old now (newcomer caller socket channel.now (option_copied member.entry))) }
@@ -107,8 +105,7 @@ impl Channels {
         member: Option<&Member>,
         now: u64,
     ) -> Result<Vec<Hook>, Memory>
-        requires name { IsTrue (is_good_name channel.now) }
-        requires member { IsMemberOf (is_presence channel.now) (option_copied member) }
+        requires { IsMemberOf (is_presence channel.now) (option_copied member) }
         ensures { IfOk result (λ made. made.items ≡ join_hooks self.now now (newcomer 0 0 channel.now (option_copied member.entry))) }
     {
         let mut hooks = Vec::new(self.alloc);

@@ -9,7 +9,6 @@
 mod brief;
 mod channels;
 mod clock;
-mod deliveries;
 mod effects;
 mod greeting;
 mod joining;

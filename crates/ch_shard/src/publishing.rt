@@ -1,6 +1,5 @@
-ghost use Rattle.std.specs.Prelude.{◌≡◌, ◌≤◌, ℕ, List, OnOk, OnErr, IsTrue, MatchResult};
+ghost use Rattle.std.specs.Prelude.{◌≡◌, ◌≤◌, ℕ, List, OnOk, OnErr, MatchResult};
 ghost use Rattle.ch_cache.specs.Latest.{latest_in};
-ghost use Rattle.ch_history.specs.ChannelName.{is_good_name};
 ghost use Rattle.ch_history.specs.Limits.{IsMoment};
 ghost use Rattle.ch_shard.specs.Parts.{IsUnchanged, PublishGives, after_event, event_at};
 
@@ -21,8 +20,7 @@ impl Channels {
         except: Option<u64>,
         now: u64,
     ) -> Result<ChanAnswer, Memory>
-        requires name { IsTrue (is_good_name channel.now) }
-        requires moment { IsMoment now }
+        requires { IsMoment now }
         ensures { MatchResult result (λ answer. PublishGives self.old self.new now channel.now event.now body.now except answer) (λ _. IsUnchanged self.old self.new) }
     {
         let subs = self.subs.count(channel);
@@ -48,8 +46,7 @@ fn keep(
     body: &Text,
     now: u64,
 ) -> Result<(), Memory>
-    requires name { IsTrue (is_good_name channel.now) }
-    requires moment { IsMoment now }
+    requires { IsMoment now }
     ensures ok { OnOk result ((d : List ℕ) (at : ℕ) → now ≤ at
         → latest_in cache.new d at ≡ after_event (latest_in cache.old) channel.now (event_at now event.now body.now) d at) }
     ensures err { OnErr result (cache.new ≡ cache.old) }
@@ -67,8 +64,7 @@ fn put_latest(
     body: &Text,
     now: u64,
 ) -> Result<(), Memory>
-    requires name { IsTrue (is_good_name channel.now) }
-    requires moment { IsMoment now }
+    requires { IsMoment now }
     ensures ok { OnOk result ((d : List ℕ) (at : ℕ)
         → latest_in cache.new d at ≡ after_event (latest_in cache.old) channel.now (event_at now event.now body.now) d at) }
     ensures err { OnErr result (cache.new ≡ cache.old) }

@@ -1,17 +1,12 @@
 -- The frames that a call makes, by the sign-ins and the watches before it.
-use Rattle.std.specs.Prelude.{ℕ, ◌<◌, ◌≤◌, false, List, [], ◌∷◌, Option, All, filter, length, map, if◌then◌else◌}
+use Rattle.std.specs.Prelude.{ℕ, ◌<◌, false, List, [], ◌∷◌, Option, All, filter, map, if◌then◌else◌}
 use Rattle.ch_base.specs.declared.frame.Frame.{Frame}
 use Rattle.ch_history.specs.declared.rows.UserSocket.{UserSocket}
 use Rattle.ch_history.specs.declared.rows.Delivery.{Delivery}
 use Rattle.ch_history.specs.Deliveries.{delivery}
 use Rattle.ch_history.specs.Frames.{is_other}
 use Rattle.ch_history.specs.UserFrames.{to_socket, tell_watchers}
-use Rattle.ch_outbox.specs.Outbox.{Waiting, spare_of}
 use Rattle.ch_watch.specs.Watches.{SignsAndWatches, without}
-
--- there is room for all of these frames at each owner of one
-abbrev pub HasRoom : List Waiting → List Delivery → Type 0
-HasRoom rows made = All (λ d. length made ≤ spare_of rows d.owner) made
 
 -- each owner is a caller's number, which is below 64
 pub record HasOwners (w : SignsAndWatches) : Type 0 where

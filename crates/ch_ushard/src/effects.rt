@@ -2,9 +2,8 @@ ghost use Rattle.std.specs.Prelude.{◌≡◌, ℕ, ◌<◌, [], ◌∷◌, ◌+
 ghost use Rattle.std.specs.Arc.{arc_value};
 ghost use Rattle.ch_history.specs.Deliveries.{delivery, for_owner};
 ghost use Rattle.ch_outbox.specs.Outbox.{frames_of};
-ghost use Rattle.ch_ushard.specs.Effects.{HasRoom};
+ghost use Rattle.ch_outbox.specs.Room.{HasRoom};
 
-use crate::deliveries::{deliver, reserve_for};
 use ch_base::{Memory, Printed, Shared};
 use ch_history::Delivery;
 use ch_outbox::Outbox;
@@ -58,7 +57,7 @@ impl Effects {
         ensures frames { (w : ℕ) → frames_of outbox.new w ≡ frames_of outbox.old w }
         ensures room { OnOk result (HasRoom outbox.new self.now) }
     {
-        reserve_for(outbox, self.frames.as_slice())
+        outbox.reserve_for(self.frames.as_slice())
     }
 
     /// Adds the frames at the end of their owners' ones. It takes no memory.
@@ -67,6 +66,6 @@ impl Effects {
         ensures { (w : ℕ) → frames_of outbox.new w ≡ frames_of outbox.old w ++ for_owner w self }
     {
         let Effects { frames } = self;
-        deliver(outbox, frames);
+        outbox.deliver(frames);
     }
 }

@@ -6,7 +6,6 @@
 //! of calls: its plain lists are searched from end to end.
 #![tactic(auto)]
 
-mod deliveries;
 mod effects;
 mod parting;
 mod seat;

@@ -12,7 +12,8 @@ use Rattle.ch_shard.specs.Sound.{AreSoundRows}
 use Rattle.ch_hooklog.specs.HookLog.{IsOfOneCall}
 use Rattle.ch_shard.proofs.Greetings.{absent_is}
 use Rattle.ch_shard.proofs.Occurring.{occurs, join-call}
-use Rattle.ch_shard.proofs.Owners.{OwnsSub, OwnsFrame, join_owned}
+use Rattle.ch_outbox.proofs.Rooms.{OwnsFrame}
+use Rattle.ch_shard.proofs.Owners.{OwnsSub, join_owned}
 use Rattle.ch_shard.proofs.Sounds.{IsSound-join}
 use Rattle.ch_shard.proofs.Stays.{join_undone}
 use Rattle.ch_subs.specs.Subs.{without_one}

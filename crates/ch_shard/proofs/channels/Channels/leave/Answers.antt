@@ -9,7 +9,8 @@ use Rattle.ch_hooklog.specs.HookLog.{IsOfOneCall}
 use Rattle.ch_shard.specs.Parting.{leave_frames, leave_hooks}
 use Rattle.ch_shard.proofs.Occurring.{occurs, leave-call}
 use Rattle.ch_shard.proofs.Sounds.{IsSound-leave}
-use Rattle.ch_shard.proofs.Owners.{OwnsFrame, leave_owned}
+use Rattle.ch_outbox.proofs.Rooms.{OwnsFrame}
+use Rattle.ch_shard.proofs.Owners.{leave_owned}
 use Rattle.ch_shard.proofs.channels.Channels.leave.Goals as goal
 
 pub make_room-requires : goal.make_room-requires

@@ -9,7 +9,8 @@ use Rattle.ch_shard.proofs.Sounds.{IsSound-lost}
 use Rattle.ch_hooklog.specs.HookLog.{IsOfOneCall}
 use Rattle.ch_history.specs.Subscriptions.{channels_in}
 use Rattle.ch_shard.proofs.Occurring.{occurs, lost-call}
-use Rattle.ch_shard.proofs.Owners.{OwnsFrame, lost_owned}
+use Rattle.ch_outbox.proofs.Rooms.{OwnsFrame}
+use Rattle.ch_shard.proofs.Owners.{lost_owned}
 use Rattle.ch_shard.proofs.channels.Channels.lost.Goals as goal
 
 pub make_room-requires : goal.make_room-requires

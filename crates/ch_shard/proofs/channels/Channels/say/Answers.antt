@@ -7,7 +7,8 @@ use Rattle.ch_history.specs.Frames.{is_other}
 use Rattle.ch_history.specs.Subscriptions.{on_channel, is_on}
 use Rattle.ch_shard.specs.Told.{told}
 use Rattle.ch_shard.proofs.Occurring.{occurs}
-use Rattle.ch_shard.proofs.Owners.{OwnsFrame, told_owned}
+use Rattle.ch_outbox.proofs.Rooms.{OwnsFrame}
+use Rattle.ch_shard.proofs.Owners.{told_owned}
 use Rattle.ch_shard.proofs.channels.Channels.say.Goals as goal
 
 pub make_room-requires : goal.make_room-requires

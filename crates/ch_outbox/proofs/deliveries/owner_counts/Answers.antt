@@ -1,9 +1,8 @@
 use Rattle.std.proofs.Common.{◌<◌, ◌≡◌, ◌∙◌, refl, sym, subst, length, arith}
 use Rattle.std.proofs.lemmas.List.{get_or-replicate, length-set}
 use Rattle.ch_history.specs.declared.rows.Delivery.{Delivery}
-use Rattle.ch_shard.proofs.Owners.{OwnsFrame}
-use Rattle.ch_shard.proofs.Rooms.{counted}
-use Rattle.ch_shard.proofs.deliveries.owner_counts.Goals as goal
+use Rattle.ch_outbox.proofs.Rooms.{OwnsFrame, counted}
+use Rattle.ch_outbox.proofs.deliveries.owner_counts.Goals as goal
 
 pub loop-delivery-init : goal.loop-delivery-init
 loop-delivery-init c = record { owners = refl; counted = λ w small. get_or-replicate 64 w 0 0 small }

@@ -1,6 +1,6 @@
 use Rattle.std.proofs.Common.{◌≡◌, ℕ, ◌<◌, length, take, slice_index_or}
-use Rattle.ch_shard.specs.Room.{count_for}
-use Rattle.ch_shard.proofs.deliveries.owner_counts.Given as goal
+use Rattle.ch_outbox.specs.Room.{count_for}
+use Rattle.ch_outbox.proofs.deliveries.owner_counts.Given as goal
 
 abbrev pub invariant-loop-delivery : goal.invariant-loop-delivery
 invariant-loop-delivery l = record {

@@ -7,8 +7,11 @@ use Rattle.std.proofs.lemmas.List.Sums.{sum_by-cons, sum_by_more}
 use Rattle.std.proofs.lemmas.Grind.{get_or-set_at}
 use Rattle.ch_history.specs.declared.rows.Delivery.{Delivery}
 use Rattle.ch_outbox.specs.Outbox.{Waiting, spare_of}
-use Rattle.ch_shard.specs.Room.{count_for, HasRoom}
-use Rattle.ch_shard.proofs.Owners.{OwnsFrame}
+use Rattle.ch_outbox.specs.Room.{count_for, HasRoom}
+
+-- an owner is a caller's number
+abbrev pub OwnsFrame : Delivery → Type 0
+OwnsFrame d = d.owner < 64
 
 one_first : (w : ℕ) (d : Delivery) (made : List Delivery) → count_for w (d ∷ made) ≡ cond (d.owner == w) 1 0 + count_for w made
 one_first w d made = sum_by-cons (λ (x : Delivery). cond (x.owner == w) 1 0) d made
