@@ -12,7 +12,8 @@ use Rattle.std.proofs.lemmas.Map.Text.{is_eq-slice_cmp}
 use Rattle.ch_history.proofs.Texts.{same_text}
 use Rattle.ch_index.specs.Nest.{inner}
 use Rattle.ch_index.specs.Rows.{is_of}
-use Rattle.ch_index.specs.Numbered.{AreBelow, numbers_at, number_of}
+use Rattle.ch_index.specs.Numbered.{AreBelow, numbers_at, marks_at, number_of}
+use Rattle.ch_index.proofs.Marking.{keys_marked}
 use Rattle.ch_index.proofs.Compared.{greater, is_eq-nat_cmp, same_number}
 
 pub insert_above : {X : Type 0} (n : ℕ) (x : X) (es : List (ℕ × X)) → AreBelow n (keys_of es) → insert_entry nat_cmp es n x ≡ es ++ (n, x) ∷ []
@@ -34,28 +35,33 @@ module _ {R : Type 0} (name : R → List ℕ) where
         | false ↦ numbers_below n es c below.1
       ]
 
-  pub numbers_push : (es : List (ℕ × R)) (n : ℕ) (r : R) (c : List ℕ) → numbers_at name (es ++ (n, r) ∷ []) c ≡ numbers_at name es c ++ cond (bytes_eq (name r) c) (n ∷ []) []
-  numbers_push es n r c =
-      let p : ℕ × R → Bool = λ e. bytes_eq (name e.1) c in
-      let last : List (ℕ × R) = (n, r) ∷ [] in
-      let number : ℕ × R → ℕ = λ e. e.0 in
-      ap (map number) (filter-append p es last)
-      ∙ map-append number (filter p es) (filter p last)
-      ∙ elim (bytes_eq (name r) c) as (λ b. numbers_at name es c ++ map number (cond b last []) ≡ numbers_at name es c ++ cond b (n ∷ []) []) [ true ↦ refl | false ↦ refl ]
+  module _ {M : Type 0} (mark : R → M) where
+    pub marks_below : (n : ℕ) (es : List (ℕ × R)) (c : List ℕ) → AreBelow n (keys_of es) → AreBelow n (keys_of (marks_at name mark es c))
+    marks_below n es c below = subst (AreBelow n) (sym (keys_marked name mark es c)) (numbers_below n es c below)
 
-  -- the index by names with the row's number
-  pub put_name : {V : Type 0} (old new : BTreeMap (List ℕ) (BTreeMap ℕ V)) (es : List (ℕ × R)) (n : ℕ) (r : R) (v : V) (key c : List ℕ) → key ≡ name r → ((d : List ℕ) → keys_of (inner (slice_cmp nat_cmp) old d) ≡ numbers_at name es d) → AreBelow n (keys_of es) → inner (slice_cmp nat_cmp) new c ≡ cond (is_eq (slice_cmp nat_cmp key c)) (insert_entry nat_cmp (inner (slice_cmp nat_cmp) old key) n v) (inner (slice_cmp nat_cmp) old c) → keys_of (inner (slice_cmp nat_cmp) new c) ≡ numbers_at name (es ++ (n, r) ∷ []) c
-  put_name {V} old new es n r v key c its agrees below is =
-      let was = λ (d : List ℕ). inner (slice_cmp nat_cmp) old d in
-      ap keys_of (is ∙ ap (λ d. cond (is_eq (slice_cmp nat_cmp d c)) (insert_entry nat_cmp (was d) n v) (was c)) its ∙ ap (λ b. cond b (insert_entry nat_cmp (was (name r)) n v) (was c)) (is_eq-slice_cmp (name r) c))
-      ∙ (elim (bytes_eq (name r) c) as (λ b. bytes_eq (name r) c ≡ b → keys_of (cond b (insert_entry nat_cmp (was (name r)) n v) (was c)) ≡ numbers_at name es c ++ cond b (n ∷ []) []) [
-        | true ↦ (λ same.
-            ap keys_of (insert_above n v (was (name r)) (subst (AreBelow n) (sym (agrees (name r))) (numbers_below n es (name r) below)))
-            ∙ map-append (λ e. e.0) (was (name r)) ((n, v) ∷ [])
-            ∙ ap (λ ks. ks ++ n ∷ []) (agrees (name r) ∙ ap (numbers_at name es) (same_text (name r) c same)))
-        | false ↦ (λ other. agrees c ∙ sym (append-nil (numbers_at name es c)))
-      ]) refl
-      ∙ sym (numbers_push es n r c)
+    pub marks_push : (es : List (ℕ × R)) (n : ℕ) (r : R) (c : List ℕ) → marks_at name mark (es ++ (n, r) ∷ []) c ≡ marks_at name mark es c ++ cond (bytes_eq (name r) c) ((n, mark r) ∷ []) []
+    marks_push es n r c =
+        let p : ℕ × R → Bool = λ e. bytes_eq (name e.1) c in
+        let last : List (ℕ × R) = (n, r) ∷ [] in
+        let held : ℕ × R → ℕ × M = λ e. (e.0, mark e.1) in
+        ap (map held) (filter-append p es last)
+        ∙ map-append held (filter p es) (filter p last)
+        ∙ elim (bytes_eq (name r) c) as (λ b. marks_at name mark es c ++ map held (cond b last []) ≡ marks_at name mark es c ++ cond b ((n, mark r) ∷ []) []) [ true ↦ refl | false ↦ refl ]
+
+    -- the index by names with the row's number and mark
+    pub put_name : (old new : BTreeMap (List ℕ) (BTreeMap ℕ M)) (es : List (ℕ × R)) (n : ℕ) (r : R) (m : M) (key c : List ℕ) → key ≡ name r → m ≡ mark r → ((d : List ℕ) → inner (slice_cmp nat_cmp) old d ≡ marks_at name mark es d) → AreBelow n (keys_of es) → inner (slice_cmp nat_cmp) new c ≡ cond (is_eq (slice_cmp nat_cmp key c)) (insert_entry nat_cmp (inner (slice_cmp nat_cmp) old key) n m) (inner (slice_cmp nat_cmp) old c) → inner (slice_cmp nat_cmp) new c ≡ marks_at name mark (es ++ (n, r) ∷ []) c
+    put_name old new es n r m key c its held agrees below is =
+        let was = λ (d : List ℕ). inner (slice_cmp nat_cmp) old d in
+        is
+        ∙ ap₂ (λ d x. cond (is_eq (slice_cmp nat_cmp d c)) (insert_entry nat_cmp (was d) n x) (was c)) its held
+        ∙ ap (λ b. cond b (insert_entry nat_cmp (was (name r)) n (mark r)) (was c)) (is_eq-slice_cmp (name r) c)
+        ∙ (elim (bytes_eq (name r) c) as (λ b. bytes_eq (name r) c ≡ b → cond b (insert_entry nat_cmp (was (name r)) n (mark r)) (was c) ≡ marks_at name mark es c ++ cond b ((n, mark r) ∷ []) []) [
+          | true ↦ (λ same.
+              insert_above n (mark r) (was (name r)) (subst (λ ms. AreBelow n (keys_of ms)) (sym (agrees (name r))) (marks_below n es (name r) below))
+              ∙ ap (λ ms. ms ++ (n, mark r) ∷ []) (agrees (name r) ∙ ap (marks_at name mark es) (same_text (name r) c same)))
+          | false ↦ (λ other. agrees c ∙ sym (append-nil (marks_at name mark es c)))
+        ]) refl
+        ∙ sym (marks_push es n r c)
 
   module _ (socket : R → ℕ) where
     pub number_push : (es : List (ℕ × R)) (n : ℕ) (r : R) (s : ℕ) (c : List ℕ) → number_of name socket (es ++ (n, r) ∷ []) s c ≡ cond (is_of name socket s c r) (option_or (number_of name socket es s c) (Some n)) (number_of name socket es s c)

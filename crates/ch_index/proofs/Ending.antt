@@ -12,10 +12,9 @@ use Rattle.ch_history.proofs.Lists.{both, neither}
 use Rattle.ch_history.proofs.Texts.{same_text, text_itself}
 use Rattle.ch_index.specs.Nest.{inner}
 use Rattle.ch_index.specs.Rows.{is_of, has_row, EachOnce}
-use Rattle.ch_index.specs.Numbered.{numbers_at, number_of}
+use Rattle.ch_index.specs.Numbered.{marks_at, number_of}
 use Rattle.ch_index.proofs.Compared.{less_number, is_eq-nat_cmp, same_number, number_itself, not_at, number_swap, text_swap}
 use Rattle.ch_index.proofs.Once.{is_of-swap}
-use Rattle.ch_index.proofs.Undoing.{without_key, keys-remove}
 
 module _ {R : Type 0} (name : R → List ℕ) (socket : R → ℕ) where
   is_of_itself : (r : R) → is_of name socket (socket r) (name r) r ≡ true
@@ -56,10 +55,10 @@ module _ {R : Type 0} (name : R → List ℕ) (socket : R → ℕ) where
       ]) is
 
   -- what the rows are without the one that has the number n
-  pub record Taken (es : List (ℕ × R)) (n s : ℕ) (c : List ℕ) : Type 0 where
+  pub record Taken {M : Type 0} (mark : R → M) (es : List (ℕ × R)) (n s : ℕ) (c : List ℕ) : Type 0 where
     pub rows : remove_entry (is_at (nat_cmp n)) es ≡ filter (λ e. not (is_of name socket s c e.1)) es
-    pub numbers : without_key (is_at (nat_cmp n)) (numbers_at name es c) ≡ numbers_at name (remove_entry (is_at (nat_cmp n)) es) c
-    pub others : (d : List ℕ) → bytes_eq c d ≡ false → numbers_at name (remove_entry (is_at (nat_cmp n)) es) d ≡ numbers_at name es d
+    pub own : remove_entry (is_at (nat_cmp n)) (marks_at name mark es c) ≡ marks_at name mark (remove_entry (is_at (nat_cmp n)) es) c
+    pub others : (d : List ℕ) → bytes_eq c d ≡ false → marks_at name mark (remove_entry (is_at (nat_cmp n)) es) d ≡ marks_at name mark es d
 
   none_other : (es : List (ℕ × R)) (s : ℕ) (c : List ℕ) → has_row name socket (values_of es) s c ≡ false → filter (λ e. not (is_of name socket s c e.1)) es ≡ es
   none_other [] s c none = refl
@@ -78,56 +77,58 @@ module _ {R : Type 0} (name : R → List ℕ) (socket : R → ℕ) where
       let parts = both (socket e == s) (bytes_eq (name e) c) is in
       ap₂ (has_row name socket es) (same_number (socket e) s parts.0) (same_text (name e) c parts.1)
 
-  pub taken : (es : List (ℕ × R)) (n s : ℕ) (c : List ℕ) → IsStrictlySortedBy nat_cmp (keys_of es) → EachOnce name socket (values_of es) → number_of name socket es s c ≡ Some n → Taken es n s c
-  taken [] n s c rising once is = cc
-  taken (e ∷ es) n s c rising once is =
+  pub taken : {M : Type 0} (mark : R → M) (es : List (ℕ × R)) (n s : ℕ) (c : List ℕ) → IsStrictlySortedBy nat_cmp (keys_of es) → EachOnce name socket (values_of es) → number_of name socket es s c ≡ Some n → Taken mark es n s c
+  taken mark [] n s c rising once is = cc
+  taken {M} mark (e ∷ es) n s c rising once is =
       let p : ℕ × R → Bool = λ e. is_of name socket s c e.1 in
       let t = is_at (nat_cmp n) in
       let kept = filter (λ e. not (p e)) es in
-      (elim (p e) as (λ b. p e ≡ b → option_map (λ e. e.0) (cond b (Some e) (find p es)) ≡ Some n → Taken (e ∷ es) n s c) [
-        | true ↦ (λ own is.
+      let held : ℕ × R → ℕ × M = λ e. (e.0, mark e.1) in
+      let list = λ (d : List ℕ) (fs : List (ℕ × R)) (b : Bool). map held (cond b (e ∷ filter (λ e. bytes_eq (name e.1) d) fs) (filter (λ e. bytes_eq (name e.1) d) fs)) in
+      (elim (p e) as (λ b. p e ≡ b → option_map (λ e. e.0) (cond b (Some e) (find p es)) ≡ Some n → Taken mark (e ∷ es) n s c) [
+        | true ↦ (λ is_own is.
             let same : e.0 ≡ n = cc in
             let at : t e.0 ≡ true = ap t same ∙ is_eq-nat_cmp n n ∙ number_itself n in
-            let named : bytes_eq (name e.1) c ≡ true = (both (socket e.1 == s) (bytes_eq (name e.1) c) own).1 in
+            let named : bytes_eq (name e.1) c ≡ true = (both (socket e.1 == s) (bytes_eq (name e.1) c) is_own).1 in
             let gone : remove_entry t (e ∷ es) ≡ es = ap (λ b. cond b es (e ∷ remove_entry t es)) at in
             record {
               rows = gone
-                  ∙ sym (none_other es s c (sym (has_row_of e.1 (values_of es) s c own) ∙ once.0))
-                  ∙ sym (ap (λ b. cond (not b) (e ∷ kept) kept) own);
-              numbers = ap (λ b. without_key t (map (λ e. e.0) (cond b (e ∷ filter (λ e. bytes_eq (name e.1) c) es) (filter (λ e. bytes_eq (name e.1) c) es)))) named
-                  ∙ ap (λ b. cond b (numbers_at name es c) (e.0 ∷ without_key t (numbers_at name es c))) at
-                  ∙ sym (ap (λ fs. numbers_at name fs c) gone);
+                  ∙ sym (none_other es s c (sym (has_row_of e.1 (values_of es) s c is_own) ∙ once.0))
+                  ∙ sym (ap (λ b. cond (not b) (e ∷ kept) kept) is_own);
+              own = ap (λ b. remove_entry t (list c es b)) named
+                  ∙ ap (λ b. cond b (marks_at name mark es c) (held e ∷ remove_entry t (marks_at name mark es c))) at
+                  ∙ sym (ap (λ fs. marks_at name mark fs c) gone);
               others = λ d other.
-                  ap (λ fs. numbers_at name fs d) gone
-                  ∙ sym (ap (λ b. map (λ e. e.0) (cond b (e ∷ filter (λ e. bytes_eq (name e.1) d) es) (filter (λ e. bytes_eq (name e.1) d) es))) (ap (λ x. bytes_eq x d) (same_text (name e.1) c named) ∙ other));
+                  ap (λ fs. marks_at name mark fs d) gone
+                  ∙ sym (ap (list d es) (ap (λ x. bytes_eq x d) (same_text (name e.1) c named) ∙ other));
             })
         | false ↦ (λ other is.
-            let rest = taken es n s c (sorted_tail nat_cmp e.0 (keys_of es) rising) once.1 is in
+            let rest = taken mark es n s c (sorted_tail nat_cmp e.0 (keys_of es) rising) once.1 is in
             let past : t e.0 ≡ false = not_at n e.0 (number_above e.0 n es s c (sorted_head nat_cmp e.0 (keys_of es) rising) is) in
             let stays : remove_entry t (e ∷ es) ≡ e ∷ remove_entry t es = ap (λ b. cond b es (e ∷ remove_entry t es)) past in
-            let list = λ (d : List ℕ) (fs : List (ℕ × R)) (b : Bool). map (λ e. e.0) (cond b (e ∷ filter (λ e. bytes_eq (name e.1) d) fs) (filter (λ e. bytes_eq (name e.1) d) fs)) in
             record {
               rows = stays ∙ ap (λ ys. e ∷ ys) rest.rows ∙ sym (ap (λ b. cond (not b) (e ∷ kept) kept) other);
-              numbers = elim (bytes_eq (name e.1) c) as (λ b. without_key t (list c es b) ≡ list c (remove_entry t es) b) [
-                | true ↦ ap (λ b. cond b (numbers_at name es c) (e.0 ∷ without_key t (numbers_at name es c))) past ∙ ap (λ ks. e.0 ∷ ks) rest.numbers
-                | false ↦ rest.numbers
-              ] ∙ sym (ap (λ fs. numbers_at name fs c) stays);
-              others = λ d apart. ap (λ fs. numbers_at name fs d) stays
+              own = elim (bytes_eq (name e.1) c) as (λ b. remove_entry t (list c es b) ≡ list c (remove_entry t es) b) [
+                | true ↦ ap (λ b. cond b (marks_at name mark es c) (held e ∷ remove_entry t (marks_at name mark es c))) past ∙ ap (λ hs. held e ∷ hs) rest.own
+                | false ↦ rest.own
+              ] ∙ sym (ap (λ fs. marks_at name mark fs c) stays);
+              others = λ d apart. ap (λ fs. marks_at name mark fs d) stays
                   ∙ elim (bytes_eq (name e.1) d) as (λ b. list d (remove_entry t es) b ≡ list d es b) [
-                    | true ↦ ap (λ ks. e.0 ∷ ks) (rest.others d apart)
+                    | true ↦ ap (λ hs. held e ∷ hs) (rest.others d apart)
                     | false ↦ rest.others d apart
                   ];
             })
       ]) refl is
 
   -- the index by names
-  pub take_name : {V : Type 0} (old new : BTreeMap (List ℕ) (BTreeMap ℕ V)) (es : List (ℕ × R)) (n s : ℕ) (key c : List ℕ) → Taken es n s key → ((d : List ℕ) → keys_of (inner (slice_cmp nat_cmp) old d) ≡ numbers_at name es d) → inner (slice_cmp nat_cmp) new c ≡ cond (is_eq (slice_cmp nat_cmp key c)) (remove_entry (is_at (nat_cmp n)) (inner (slice_cmp nat_cmp) old key)) (inner (slice_cmp nat_cmp) old c) → keys_of (inner (slice_cmp nat_cmp) new c) ≡ numbers_at name (remove_entry (is_at (nat_cmp n)) es) c
-  take_name {V} old new es n s key c gone agrees is =
+  pub take_name : {M : Type 0} (mark : R → M) (old new : BTreeMap (List ℕ) (BTreeMap ℕ M)) (es : List (ℕ × R)) (n s : ℕ) (key c : List ℕ) → Taken mark es n s key → ((d : List ℕ) → inner (slice_cmp nat_cmp) old d ≡ marks_at name mark es d) → inner (slice_cmp nat_cmp) new c ≡ cond (is_eq (slice_cmp nat_cmp key c)) (remove_entry (is_at (nat_cmp n)) (inner (slice_cmp nat_cmp) old key)) (inner (slice_cmp nat_cmp) old c) → inner (slice_cmp nat_cmp) new c ≡ marks_at name mark (remove_entry (is_at (nat_cmp n)) es) c
+  take_name mark old new es n s key c gone agrees is =
       let was = λ (d : List ℕ). inner (slice_cmp nat_cmp) old d in
       let t = is_at (nat_cmp n) in
-      ap keys_of (is ∙ ap (λ b. cond b (remove_entry t (was key)) (was c)) (is_eq-slice_cmp key c))
-      ∙ (elim (bytes_eq key c) as (λ b. bytes_eq key c ≡ b → keys_of (cond b (remove_entry t (was key)) (was c)) ≡ numbers_at name (remove_entry t es) c) [
-        | true ↦ (λ same. keys-remove t (was key) ∙ ap (without_key t) (agrees key) ∙ gone.numbers ∙ ap (numbers_at name (remove_entry t es)) (same_text key c same))
+      is
+      ∙ ap (λ b. cond b (remove_entry t (was key)) (was c)) (is_eq-slice_cmp key c)
+      ∙ (elim (bytes_eq key c) as (λ b. bytes_eq key c ≡ b → cond b (remove_entry t (was key)) (was c) ≡ marks_at name mark (remove_entry t es) c) [
+        | true ↦ (λ same. ap (remove_entry t) (agrees key) ∙ gone.own ∙ ap (marks_at name mark (remove_entry t es)) (same_text key c same))
         | false ↦ (λ other. agrees c ∙ sym (gone.others c other))
       ]) refl
 
@@ -156,8 +157,8 @@ module _ {R : Type 0} (name : R → List ℕ) (socket : R → ℕ) where
       ]) refl
 
   -- the index by sockets
-  pub take_socket : (old new : BTreeMap ℕ (BTreeMap (List ℕ) ℕ)) (es : List (ℕ × R)) (n at s : ℕ) (key c : List ℕ) → Taken es n at key → ((t : ℕ) (d : List ℕ) → lookup (is_at (slice_cmp nat_cmp d)) (inner nat_cmp old t) ≡ number_of name socket es t d) → lookup (is_at (slice_cmp nat_cmp c)) (inner nat_cmp new s) ≡ cond (is_eq (nat_cmp at s)) (cond (is_eq (slice_cmp nat_cmp key c)) None (lookup (is_at (slice_cmp nat_cmp c)) (inner nat_cmp old at))) (lookup (is_at (slice_cmp nat_cmp c)) (inner nat_cmp old s)) → lookup (is_at (slice_cmp nat_cmp c)) (inner nat_cmp new s) ≡ number_of name socket (remove_entry (is_at (nat_cmp n)) es) s c
-  take_socket old new es n at s key c gone agrees is =
+  pub take_socket : {M : Type 0} (mark : R → M) (old new : BTreeMap ℕ (BTreeMap (List ℕ) ℕ)) (es : List (ℕ × R)) (n at s : ℕ) (key c : List ℕ) → Taken mark es n at key → ((t : ℕ) (d : List ℕ) → lookup (is_at (slice_cmp nat_cmp d)) (inner nat_cmp old t) ≡ number_of name socket es t d) → lookup (is_at (slice_cmp nat_cmp c)) (inner nat_cmp new s) ≡ cond (is_eq (nat_cmp at s)) (cond (is_eq (slice_cmp nat_cmp key c)) None (lookup (is_at (slice_cmp nat_cmp c)) (inner nat_cmp old at))) (lookup (is_at (slice_cmp nat_cmp c)) (inner nat_cmp old s)) → lookup (is_at (slice_cmp nat_cmp c)) (inner nat_cmp new s) ≡ number_of name socket (remove_entry (is_at (nat_cmp n)) es) s c
+  take_socket mark old new es n at s key c gone agrees is =
       let was = λ (t : ℕ). lookup (is_at (slice_cmp nat_cmp c)) (inner nat_cmp old t) in
       is
       ∙ ap₂ (λ a b. cond a (cond b None (was at)) (was s)) (is_eq-nat_cmp at s) (is_eq-slice_cmp key c)

@@ -1,4 +1,5 @@
 pub mod Compared
+pub mod Marking
 pub mod Once
 pub mod Adding
 pub mod Undoing

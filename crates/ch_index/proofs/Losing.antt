@@ -81,7 +81,7 @@ module _ {R : Type 0} (name : R → List ℕ) (socket : R → ℕ) where
   -- what is left without the row under the number of a socket and a name
   pub one_left : (es : List (ℕ × R)) (n s : ℕ) (c : List ℕ) → IsStrictlySortedBy nat_cmp (keys_of es) → EachOnce name socket (values_of es) → number_of name socket es s c ≡ Some n → values_of (remove_entry (is_at (nat_cmp n)) es) ≡ without_one name socket (values_of es) s c
   one_left es n s c rising once is =
-      ap values_of (taken name socket es n s c rising once is).rows ∙ values-filter (λ r. not (is_of name socket s c r)) es
+      ap values_of (taken name socket name es n s c rising once is).rows ∙ values-filter (λ r. not (is_of name socket s c r)) es
 
   pub none_left : (es : List (ℕ × R)) (s : ℕ) (c : List ℕ) → number_of name socket es s c ≡ None → values_of es ≡ without_one name socket (values_of es) s c
   none_left es s c none = sym (filter-none (is_of name socket s c) (values_of es) (sym (has_number name socket es s c) ∙ ap is_some none))

@@ -8,44 +8,33 @@ use Rattle.std.specs.BTreeMap.{BTreeMap, is_at}
 use Rattle.std.proofs.lemmas.Map.Text.{is_eq-slice_cmp}
 use Rattle.ch_history.proofs.Texts.{same_text, text_itself}
 use Rattle.ch_index.specs.Nest.{inner}
-use Rattle.ch_index.specs.Numbered.{AreBelow, numbers_at, number_of}
+use Rattle.ch_index.specs.Numbered.{AreBelow, marks_at, number_of}
 use Rattle.ch_index.proofs.Compared.{is_eq-nat_cmp, same_number, number_itself, not_at}
-use Rattle.ch_index.proofs.Adding.{numbers_below, numbers_push, number_push}
+use Rattle.ch_index.proofs.Adding.{marks_below, marks_push, number_push}
 
--- without the first number that passes
-abbrev pub without_key : (ℕ → Bool) → List ℕ → List ℕ
-without_key test [] = []
-without_key test (k ∷ ks) = cond (test k) ks (k ∷ without_key test ks)
-
-pub keys-remove : {X : Type 0} (test : ℕ → Bool) (es : List (ℕ × X)) → keys_of (remove_entry test es) ≡ without_key test (keys_of es)
-keys-remove test [] = refl
-keys-remove {X} test (e ∷ es) =
-    elim (test e.0) as (λ b. keys_of {X = X} (cond b es (e ∷ remove_entry test es)) ≡ cond b (keys_of es) (e.0 ∷ without_key test (keys_of es))) [
-      | true ↦ refl
-      | false ↦ ap (λ ks. e.0 ∷ ks) (keys-remove test es)
-    ]
-
-pub without_last : (n : ℕ) (ks : List ℕ) → AreBelow n ks → without_key (is_at (nat_cmp n)) (ks ++ n ∷ []) ≡ ks
-without_last n [] below = ap (λ b. cond b [] (n ∷ [])) (is_eq-nat_cmp n n ∙ number_itself n)
-without_last n (k ∷ ks) below =
-    ap (λ b. cond b (ks ++ n ∷ []) (k ∷ without_key (is_at (nat_cmp n)) (ks ++ n ∷ []))) (not_at n k below.0)
-    ∙ ap (λ ys. k ∷ ys) (without_last n ks below.1)
+pub without_last : {X : Type 0} (n : ℕ) (x : X) (es : List (ℕ × X)) → AreBelow n (keys_of es) → remove_entry (is_at (nat_cmp n)) (es ++ (n, x) ∷ []) ≡ es
+without_last n x [] below = ap (λ b. cond b [] ((n, x) ∷ [])) (is_eq-nat_cmp n n ∙ number_itself n)
+without_last n x (e ∷ es) below =
+    ap (λ b. cond b (es ++ (n, x) ∷ []) (e ∷ remove_entry (is_at (nat_cmp n)) (es ++ (n, x) ∷ []))) (not_at n e.0 below.0)
+    ∙ ap (λ ys. e ∷ ys) (without_last n x es below.1)
 
 module _ {R : Type 0} (name : R → List ℕ) where
-  pub untake_name : {V : Type 0} (mid new : BTreeMap (List ℕ) (BTreeMap ℕ V)) (es : List (ℕ × R)) (n : ℕ) (r : R) (key c : List ℕ) → key ≡ name r → ((d : List ℕ) → keys_of (inner (slice_cmp nat_cmp) mid d) ≡ numbers_at name (es ++ (n, r) ∷ []) d) → AreBelow n (keys_of es) → inner (slice_cmp nat_cmp) new c ≡ cond (is_eq (slice_cmp nat_cmp key c)) (remove_entry (is_at (nat_cmp n)) (inner (slice_cmp nat_cmp) mid key)) (inner (slice_cmp nat_cmp) mid c) → keys_of (inner (slice_cmp nat_cmp) new c) ≡ numbers_at name es c
-  untake_name {V} mid new es n r key c its agrees below is =
-      let was = λ (d : List ℕ). inner (slice_cmp nat_cmp) mid d in
-      let t = is_at (nat_cmp n) in
-      ap keys_of (is ∙ ap (λ d. cond (is_eq (slice_cmp nat_cmp d c)) (remove_entry t (was d)) (was c)) its ∙ ap (λ b. cond b (remove_entry t (was (name r))) (was c)) (is_eq-slice_cmp (name r) c))
-      ∙ (elim (bytes_eq (name r) c) as (λ b. bytes_eq (name r) c ≡ b → keys_of (cond b (remove_entry t (was (name r))) (was c)) ≡ numbers_at name es c) [
-        | true ↦ (λ same.
-            keys-remove t (was (name r))
-            ∙ ap (without_key t) (agrees (name r) ∙ numbers_push name es n r (name r) ∙ ap (λ b. numbers_at name es (name r) ++ cond b (n ∷ []) []) (text_itself (name r)))
-            ∙ without_last n (numbers_at name es (name r)) (numbers_below name n es (name r) below)
-            ∙ ap (numbers_at name es) (same_text (name r) c same))
-        | false ↦ (λ other.
-            agrees c ∙ numbers_push name es n r c ∙ ap (λ b. numbers_at name es c ++ cond b (n ∷ []) []) other ∙ append-nil (numbers_at name es c))
-      ]) refl
+  module _ {M : Type 0} (mark : R → M) where
+    pub untake_name : (mid new : BTreeMap (List ℕ) (BTreeMap ℕ M)) (es : List (ℕ × R)) (n : ℕ) (r : R) (key c : List ℕ) → key ≡ name r → ((d : List ℕ) → inner (slice_cmp nat_cmp) mid d ≡ marks_at name mark (es ++ (n, r) ∷ []) d) → AreBelow n (keys_of es) → inner (slice_cmp nat_cmp) new c ≡ cond (is_eq (slice_cmp nat_cmp key c)) (remove_entry (is_at (nat_cmp n)) (inner (slice_cmp nat_cmp) mid key)) (inner (slice_cmp nat_cmp) mid c) → inner (slice_cmp nat_cmp) new c ≡ marks_at name mark es c
+    untake_name mid new es n r key c its agrees below is =
+        let was = λ (d : List ℕ). inner (slice_cmp nat_cmp) mid d in
+        let t = is_at (nat_cmp n) in
+        is
+        ∙ ap (λ d. cond (is_eq (slice_cmp nat_cmp d c)) (remove_entry t (was d)) (was c)) its
+        ∙ ap (λ b. cond b (remove_entry t (was (name r))) (was c)) (is_eq-slice_cmp (name r) c)
+        ∙ (elim (bytes_eq (name r) c) as (λ b. bytes_eq (name r) c ≡ b → cond b (remove_entry t (was (name r))) (was c) ≡ marks_at name mark es c) [
+          | true ↦ (λ same.
+              ap (remove_entry t) (agrees (name r) ∙ marks_push name mark es n r (name r) ∙ ap (λ b. marks_at name mark es (name r) ++ cond b ((n, mark r) ∷ []) []) (text_itself (name r)))
+              ∙ without_last n (mark r) (marks_at name mark es (name r)) (marks_below name mark n es (name r) below)
+              ∙ ap (marks_at name mark es) (same_text (name r) c same))
+          | false ↦ (λ other.
+              agrees c ∙ marks_push name mark es n r c ∙ ap (λ b. marks_at name mark es c ++ cond b ((n, mark r) ∷ []) []) other ∙ append-nil (marks_at name mark es c))
+        ]) refl
 
   module _ (socket : R → ℕ) where
     pub untake_socket : (mid new : BTreeMap ℕ (BTreeMap (List ℕ) ℕ)) (es : List (ℕ × R)) (n : ℕ) (r : R) (at s : ℕ) (key c : List ℕ) → at ≡ socket r → key ≡ name r → ((t : ℕ) (d : List ℕ) → lookup (is_at (slice_cmp nat_cmp d)) (inner nat_cmp mid t) ≡ number_of name socket (es ++ (n, r) ∷ []) t d) → number_of name socket es (socket r) (name r) ≡ None → lookup (is_at (slice_cmp nat_cmp c)) (inner nat_cmp new s) ≡ cond (is_eq (nat_cmp at s)) (cond (is_eq (slice_cmp nat_cmp key c)) None (lookup (is_at (slice_cmp nat_cmp c)) (inner nat_cmp mid at))) (lookup (is_at (slice_cmp nat_cmp c)) (inner nat_cmp mid s)) → lookup (is_at (slice_cmp nat_cmp c)) (inner nat_cmp new s) ≡ number_of name socket es s c

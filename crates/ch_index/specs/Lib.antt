@@ -1,3 +1,4 @@
+pub mod Holders
 pub mod Nest
 pub mod Rows
 pub mod Numbered

@@ -27,7 +27,7 @@ abbrev pub is_past : {K : Type 0} → (K → K → Ordering) → Option K → K 
 is_past cmp None k = true
 is_past cmp (Some after) k = is_lt (cmp after k)
 
--- the keys that an iterator has left, none where there is no iterator
-abbrev pub keys_left : {K : Type 0} → Option (List K) → List K
-keys_left None = []
-keys_left (Some ks) = ks
+-- those that an iterator has left, none where there is no iterator
+abbrev pub those_left : {X : Type 0} → Option (List X) → List X
+those_left None = []
+those_left (Some xs) = xs

@@ -18,17 +18,21 @@ module _ {R : Type 0} (name : R → List ℕ) where
   abbrev pub numbers_at : List (ℕ × R) → List ℕ → List ℕ
   numbers_at es c = map (λ e. e.0) (filter (λ e. bytes_eq (name e.1) c) es)
 
+  -- the same numbers, each with the mark of its row
+  abbrev pub marks_at : {M : Type 0} → (R → M) → List (ℕ × R) → List ℕ → List (ℕ × M)
+  marks_at mark es c = map (λ e. (e.0, mark e.1)) (filter (λ e. bytes_eq (name e.1) c) es)
+
   module _ (socket : R → ℕ) where
     -- the number of the row with this socket and the name c
     abbrev pub number_of : List (ℕ × R) → ℕ → List ℕ → Option ℕ
     number_of es s c = option_map (λ e. e.0) (find (λ e. is_of name socket s c e.1) es)
 
     -- the numbers rise, no socket has a name twice, and each index has exactly what the rows have: the first
-    -- at each name the numbers of its rows, the second at each socket its names with their numbers
-    pub record IsIndexed {V : Type 0} (es : List (ℕ × R)) (names : BTreeMap (List ℕ) (BTreeMap ℕ V)) (sockets : BTreeMap ℕ (BTreeMap (List ℕ) ℕ)) : Type 0 where
+    -- at each name the numbers of its rows with their marks, the second at each socket its names with their numbers
+    pub record IsIndexed {M : Type 0} (mark : R → M) (es : List (ℕ × R)) (names : BTreeMap (List ℕ) (BTreeMap ℕ M)) (sockets : BTreeMap ℕ (BTreeMap (List ℕ) ℕ)) : Type 0 where
       pub rising : IsStrictlySortedBy nat_cmp (keys_of es)
       pub once : EachOnce name socket (values_of es)
-      pub by_name : (c : List ℕ) → keys_of (inner (slice_cmp nat_cmp) names c) ≡ numbers_at es c
+      pub by_name : (c : List ℕ) → inner (slice_cmp nat_cmp) names c ≡ marks_at mark es c
       pub by_socket : (s : ℕ) (c : List ℕ) → lookup (is_at (slice_cmp nat_cmp c)) (inner nat_cmp sockets s) ≡ number_of es s c
 
 -- the rows under these numbers

@@ -1,4 +1,4 @@
-ghost use Rattle.std.specs.Prelude.{◌≡◌, ◌==◌, false, [], ◌∷◌, ◌++◌, find, length, slice_get, option_copied, OnOk, OnErr, IfOk};
+ghost use Rattle.std.specs.Prelude.{◌≡◌, ◌==◌, false, [], ◌∷◌, ◌++◌, find, length, map, slice_get, option_copied, OnOk, OnErr, IfOk};
 ghost use Rattle.std.specs.Ordering.{nat_cmp};
 ghost use Rattle.std.specs.Cmp.Lexicographic.{slice_cmp};
 ghost use Rattle.std.specs.Map.{keys_of, values_of};
@@ -6,6 +6,7 @@ ghost use Rattle.ch_index.specs.Nest.{is_past};
 ghost use Rattle.ch_index.specs.Rows.{has_row, named, names, names_in, without_all, without_one};
 ghost use Rattle.ch_index.specs.Numbered.{AreBelow};
 
+use crate::marks::Marks;
 use crate::numbered::Numbered;
 use crate::row::Row;
 use crate::walk::Walk;
@@ -108,6 +109,13 @@ impl<R: Row + Drop> Index<R> {
         ensures { result ≡ named R.name self.now name.now }
     {
         self.numbered.walk(name)
+    }
+
+    /// The marks of the rows with the name, the oldest first, without a look at the rows.
+    pub fn marks(&self, name: &Text) -> Marks<'_, R::Mark>
+        ensures { result ≡ map R.mark (named R.name self.now name.now) }
+    {
+        self.numbered.marks(name)
     }
 
     /// How many names the socket has.

@@ -1,14 +1,14 @@
 ghost use Rattle.std.specs.Prelude.{◌≡◌, [], Some, None, OnOk, OnErr, find, length, slice_get, option_copied, option_map, if◌then◌else◌};
 ghost use Rattle.std.specs.Ordering.{is_eq};
 ghost use Rattle.std.specs.List.Sorted.{IsStrictlySortedBy};
-ghost use Rattle.std.specs.Map.{keys_of, lookup, remove_entry};
+ghost use Rattle.std.specs.Map.{keys_of, values_of, lookup, remove_entry};
 ghost use Rattle.std.specs.BTreeMap.{insert_entry, is_at};
-ghost use Rattle.ch_index.specs.Nest.{inner, is_past, is_used, keys_left, used};
+ghost use Rattle.ch_index.specs.Nest.{inner, is_past, is_used, those_left, used};
 
 use ch_base::Memory;
 use std::alloc::Global;
 use std::collections::BTreeMap;
-use std::collections::btree_map::{Keys, Range};
+use std::collections::btree_map::{Keys, Range, Values};
 use std::ops::Bound;
 
 /// An ordered map at each of some keys, itself in an ordered map. A key whose map has become empty
@@ -99,11 +99,21 @@ impl<K: Ord + Drop, J: Ord + Drop, V: Drop> Nest<K, J, V> {
 
     /// The keys of the key's map, ascending, where it has one.
     pub fn keys(&self, key: &K) -> Option<Keys<'_, J, V>>
-        ensures { keys_left result ≡ keys_of (inner K.cmp self.now.maps key.now) }
+        ensures { those_left result ≡ keys_of (inner K.cmp self.now.maps key.now) }
     {
         match self.maps.get(key) {
             None => None,
             Some(map) => Some(map.keys()),
+        }
+    }
+
+    /// The values of the key's map, ascending by their keys, where it has one.
+    pub fn values(&self, key: &K) -> Option<Values<'_, J, V>>
+        ensures { those_left result ≡ values_of (inner K.cmp self.now.maps key.now) }
+    {
+        match self.maps.get(key) {
+            None => None,
+            Some(map) => Some(map.values()),
         }
     }
 

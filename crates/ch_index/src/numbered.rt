@@ -1,4 +1,4 @@
-ghost use Rattle.std.specs.Prelude.{◌≡◌, ◌==◌, ◌^◌, ◌<◌, false, All, [], ◌∷◌, ◌++◌, None, OnOk, OnErr, IsSome, IfSome, IfNone, find, length, slice_get, option_copied, option_map, Some, IfOk};
+ghost use Rattle.std.specs.Prelude.{◌≡◌, ◌==◌, ◌^◌, ◌<◌, false, All, [], ◌∷◌, ◌++◌, None, OnOk, OnErr, IsSome, IfSome, IfNone, find, length, map, slice_get, option_copied, option_map, Some, IfOk};
 ghost use Rattle.std.specs.Ordering.{is_lt, nat_cmp};
 ghost use Rattle.std.specs.Map.{keys_of, values_of, lookup, remove_entry};
 ghost use Rattle.std.specs.BTreeMap.{is_at};
@@ -7,6 +7,7 @@ ghost use Rattle.ch_index.specs.Nest.{is_past};
 ghost use Rattle.ch_index.specs.Rows.{has_row, named, names, names_in, of_socket, without_all, without_one};
 ghost use Rattle.ch_index.specs.Numbered.{AreBelow, number_of};
 
+use crate::marks::Marks;
 use crate::nest::Nest;
 use crate::row::Row;
 use crate::walk::Walk;
@@ -15,12 +16,12 @@ use std::alloc::Global;
 use std::collections::BTreeMap;
 use std::marker::Model;
 
-/// Rows by their joining numbers, with the numbers at each name, and with each socket's names and numbers.
+/// Rows by their joining numbers, with the numbers and the marks at each name, and with each socket's names and numbers.
 #[derive(Drop)]
 pub struct Numbered<R: Row + Drop> {
     alloc: Global,
     rows: BTreeMap<u64, R>,
-    by_name: Nest<Text, u64, ()>,
+    by_name: Nest<Text, u64, R::Mark>,
     by_socket: Nest<u64, Text, u64>,
 }
 
@@ -32,7 +33,7 @@ impl<R: Row + Drop> Model for Numbered<R> {
 
     ghost view = { λ n. n.rows.entries };
 
-    ghost invariant = { λ n. IsIndexed R.name R.socket n.rows.entries n.by_name.maps n.by_socket.maps };
+    ghost invariant = { λ n. IsIndexed R.name R.socket R.mark n.rows.entries n.by_name.maps n.by_socket.maps };
 }
 
 impl<R: Row + Drop> Numbered<R> {
@@ -59,7 +60,7 @@ impl<R: Row + Drop> Numbered<R> {
         let name = row.name().copy(self.alloc)?;
         let key = row.name().copy(self.alloc)?;
         let socket_key = row.name().copy(self.alloc)?;
-        self.by_name.put(key, number, ())?;
+        self.by_name.put(key, number, row.mark())?;
         match self.by_socket.put(socket, socket_key, number) {
             Ok(()) => {}
             Err(memory) => {
@@ -178,6 +179,16 @@ impl<R: Row + Drop> Numbered<R> {
         Walk {
             numbers: self.by_name.keys(name),
             rows: &self.rows,
+        }
+    }
+
+    /// The marks of the rows with the name, the oldest first.
+    pub fn marks(&self, name: &Text) -> Marks<'_, R::Mark>
+        ensures { result ≡ map R.mark (named R.name (values_of self.now) name.now) }
+    {
+        let _ = &self.rows;
+        Marks {
+            left: self.by_name.values(name),
         }
     }
 

@@ -1,6 +1,8 @@
 ghost use Rattle.std.specs.Prelude.{◌≡◌, IfOk};
 ghost use Rattle.std.specs.Option.{option_copied};
+ghost use Rattle.ch_index.specs.Holders.{holder_of};
 
+use crate::holder::Holder;
 use crate::row::Row;
 use ch_base::{Member, Memory, Text};
 use ch_history::{Subscription, UserSocket};
@@ -8,9 +10,13 @@ use std::alloc::Global;
 
 /// A subscription is found by its channel and its socket.
 impl Row for Subscription {
+    type Mark = Holder;
+
     ghost name = { λ s. s.channel };
 
     ghost socket = { λ s. s.socket };
+
+    ghost mark = { holder_of (λ s. s.socket) (λ s. s.owner) };
 
     fn name(&self) -> &Text {
         &self.channel
@@ -18,6 +24,13 @@ impl Row for Subscription {
 
     fn socket(&self) -> u64 {
         self.socket
+    }
+
+    fn mark(&self) -> Holder {
+        Holder {
+            socket: self.socket,
+            owner: self.owner,
+        }
     }
 
     fn copy(&self, alloc: Global) -> Result<Subscription, Memory> {
@@ -32,9 +45,13 @@ impl Row for Subscription {
 
 /// A sign-in, and a watch, is found by its user and its socket.
 impl Row for UserSocket {
+    type Mark = Holder;
+
     ghost name = { λ s. s.user };
 
     ghost socket = { λ s. s.socket };
+
+    ghost mark = { holder_of (λ s. s.socket) (λ s. s.owner) };
 
     fn name(&self) -> &Text {
         &self.user
@@ -42,6 +59,13 @@ impl Row for UserSocket {
 
     fn socket(&self) -> u64 {
         self.socket
+    }
+
+    fn mark(&self) -> Holder {
+        Holder {
+            socket: self.socket,
+            owner: self.owner,
+        }
     }
 
     fn copy(&self, alloc: Global) -> Result<UserSocket, Memory> {

@@ -1,7 +1,7 @@
 ghost use Rattle.std.specs.Prelude.{◌≡◌, [], ◌∷◌, length, MatchOption};
 ghost use Rattle.std.specs.Iterator.{at_most};
 ghost use Rattle.std.specs.Map.Iter.{TakesFirst, deref};
-ghost use Rattle.ch_index.specs.Nest.{keys_left};
+ghost use Rattle.ch_index.specs.Nest.{those_left};
 
 use crate::row::Row;
 use std::collections::BTreeMap;
@@ -11,20 +11,20 @@ use std::marker::Model;
 /// The rows with a name, the oldest first.
 #[derive(Drop)]
 pub struct Walk<'a, R: Row + Drop> {
-    pub(crate) numbers: Option<Keys<'a, u64, ()>>,
+    pub(crate) numbers: Option<Keys<'a, u64, R::Mark>>,
     pub(crate) rows: &'a BTreeMap<u64, R>,
 }
 
 impl<'a, R: Row + Drop> Model for Walk<'a, R> {
     ghost use Rattle.std.specs.Prelude.{List};
-    ghost use Rattle.ch_index.specs.Nest.{keys_left};
+    ghost use Rattle.ch_index.specs.Nest.{those_left};
     ghost use Rattle.ch_index.specs.Numbered.{rows_under, AreThere};
 
     ghost Value = { List R };
 
-    ghost view = { λ w. rows_under w.rows.now.entries (keys_left w.numbers) };
+    ghost view = { λ w. rows_under w.rows.now.entries (those_left w.numbers) };
 
-    ghost invariant = { λ w. AreThere w.rows.now.entries (keys_left w.numbers) };
+    ghost invariant = { λ w. AreThere w.rows.now.entries (those_left w.numbers) };
 }
 
 impl<'a, R: Row + Drop> Iterator for Walk<'a, R> {
@@ -43,8 +43,8 @@ impl<'a, R: Row + Drop> Iterator for Walk<'a, R> {
 }
 
 /// The next number, where one is left.
-fn next_number<'a>(numbers: &mut Option<Keys<'a, u64, ()>>) -> Option<u64>
-    ensures { MatchOption result ((keys_left numbers.old ≡ []) × (keys_left numbers.new ≡ [])) (λ n. keys_left numbers.old ≡ n ∷ keys_left numbers.new) }
+fn next_number<'a, M: Drop>(numbers: &mut Option<Keys<'a, u64, M>>) -> Option<u64>
+    ensures { MatchOption result ((those_left numbers.old ≡ []) × (those_left numbers.new ≡ [])) (λ n. those_left numbers.old ≡ n ∷ those_left numbers.new) }
 {
     match numbers {
         None => None,

@@ -1,2 +1,3 @@
 pub mod Outbox
 pub mod Room
+pub mod Handed

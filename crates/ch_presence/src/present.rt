@@ -31,11 +31,16 @@ impl Present {
     }
 }
 
-/// A row is found by its channel and its socket.
+/// A row is found by its channel and its socket. Nobody is told anything by it, since a socket on a presence channel has a
+/// subscription too.
 impl Row for Present {
+    type Mark = ();
+
     ghost name = { λ r. r.channel };
 
     ghost socket = { λ r. r.socket };
+
+    ghost mark = { λ _. tt };
 
     fn name(&self) -> &Text {
         &self.channel
@@ -44,6 +49,8 @@ impl Row for Present {
     fn socket(&self) -> u64 {
         self.socket
     }
+
+    fn mark(&self) {}
 
     fn copy(&self, alloc: Global) -> Result<Present, Memory> {
         Present::of(alloc, &self.channel, self.socket, &self.member)

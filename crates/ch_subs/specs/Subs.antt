@@ -1,8 +1,10 @@
 -- The open subscriptions of all channels, the oldest first, and what each call leaves of them.
-use Rattle.std.specs.Prelude.{ℕ, not, ◌&&◌, ◌==◌, List, [], ◌∷◌, ◌++◌, bytes_eq, Option, filter, if◌then◌else◌}
+use Rattle.std.specs.Prelude.{ℕ, not, ◌&&◌, ◌==◌, List, [], ◌∷◌, ◌++◌, bytes_eq, Option, filter, map, if◌then◌else◌}
 use Rattle.ch_base.specs.declared.channel.Member.{Member}
 use Rattle.ch_history.specs.declared.rows.Subscription.{Subscription}
-use Rattle.ch_history.specs.Subscriptions.{is_on}
+use Rattle.ch_history.specs.Subscriptions.{is_on, on_channel}
+use Rattle.ch_index.specs.declared.holder.Holder.{Holder}
+use Rattle.ch_index.specs.Holders.{holder_of}
 
 -- the subscription of the socket to the channel c
 abbrev pub subscription : ℕ → List ℕ → ℕ → Option Member → Subscription
@@ -19,3 +21,7 @@ without_one xs socket c = filter (λ s. not ((s.socket == socket) && bytes_eq s.
 -- without the socket's
 abbrev pub without_all : List Subscription → ℕ → List Subscription
 without_all xs socket = filter (λ s. not (s.socket == socket)) xs
+
+-- the sockets that are subscribed to the channel c, each with its owner
+abbrev pub holders_in : List Subscription → List ℕ → List Holder
+holders_in xs c = map (holder_of (λ s. s.socket) (λ s. s.owner)) (on_channel xs c)

@@ -9,5 +9,6 @@ mod rows;
 mod subs;
 
 pub use ch_history::Subscription;
+pub use ch_index::{Holder, Holders};
 pub use joined_as::JoinedAs;
 pub use subs::{SubWalk, Subs};

@@ -1,7 +1,7 @@
 ghost use Rattle.std.specs.Prelude.{◌≡◌, ◌<◌, ◌==◌, [], length, IfOk, OnOk, OnErr, IsTrue, Ok, Some, None, find, slice_get, if◌then◌else◌};
 ghost use Rattle.std.specs.Option.{option_copied};
 ghost use Rattle.ch_history.specs.Subscriptions.{is_on, on_channel, channels_in};
-ghost use Rattle.ch_subs.specs.Subs.{joined, subscription, without_one, without_all};
+ghost use Rattle.ch_subs.specs.Subs.{holders_in, joined, subscription, without_one, without_all};
 ghost use Rattle.ch_subs.specs.Names.{is_above, names};
 ghost use Rattle.ch_subs.specs.declared.joined_as.JoinedAs.TheVariants.{Fresh, Already};
 
@@ -9,7 +9,7 @@ use crate::joined_as::JoinedAs;
 use crate::rows;
 use ch_base::{Member, Memory, Text};
 use ch_history::Subscription;
-use ch_index::{Index, Walk};
+use ch_index::{Holders, Index, Walk};
 use std::alloc::Global;
 use std::marker::Model;
 
@@ -130,6 +130,13 @@ impl Subs {
         ensures { result ≡ on_channel self.now channel.now }
     {
         self.index.walk(channel)
+    }
+
+    /// The sockets that are subscribed to the channel, each with its owner, in the order of joining.
+    pub fn holders(&self, channel: &Text) -> Holders<'_>
+        ensures { result ≡ holders_in self.now channel.now }
+    {
+        self.index.marks(channel)
     }
 
     /// How many channels the socket is subscribed to.

@@ -1,20 +1,20 @@
--- Frames for the sockets of a list: with one more socket, and their owners.
+-- Frames for the sockets of a user, and their owners.
 use Rattle.std.proofs.Common.{◌≡◌, ℕ, zero, suc, ◌+◌, ◌<◌, ◌==◌, Bool, true, false, not, cond, List, [], ◌∷◌, ◌++◌, Option, Some, None, All, filter, map, flat_map, take, slice_get, bytes_eq, refl, ap, sym, ◌∙◌, subst, append-nil, arith}
-use Rattle.std.proofs.lemmas.List.{map-append}
 use Rattle.std.proofs.lemmas.Grind.{flat_map-append}
-use Rattle.std.proofs.lemmas.List.Elements.{filter-append, All-filter, All-get_or}
-use Rattle.std.proofs.lemmas.Option.{get_or_from_slice_get, slice_get_within}
+use Rattle.std.proofs.lemmas.List.Elements.{All-filter, All-map}
 use Rattle.ch_base.specs.declared.frame.Frame.{Frame}
 use Rattle.ch_base.specs.declared.frame.Frame.TheVariants.{Watch}
 use Rattle.ch_history.specs.declared.rows.UserSocket.{UserSocket}
 use Rattle.ch_history.specs.declared.rows.Delivery.{Delivery}
-use Rattle.ch_history.specs.Deliveries.{delivery}
-use Rattle.ch_history.specs.Frames.{is_other}
-use Rattle.ch_history.specs.SignIns.{user_socket, of_user, has_any}
+use Rattle.ch_history.specs.SignIns.{of_user, has_any}
 use Rattle.ch_history.specs.UserFrames.{to_socket, tell_watchers}
 use Rattle.ch_history.proofs.Lists.{filter-swap}
-use Rattle.ch_watch.specs.Watches.{SignsAndWatches, without}
-use Rattle.ch_ushard.specs.Effects.{HasOwners, told, told_one, farewell}
+use Rattle.ch_index.specs.declared.holder.Holder.{Holder}
+use Rattle.ch_index.specs.Holders.{holder_of}
+use Rattle.ch_outbox.specs.Handed.{handed}
+use Rattle.ch_outbox.proofs.HandedRows.{handed-rows}
+use Rattle.ch_watch.specs.Watches.{SignsAndWatches, holders_of, without}
+use Rattle.ch_ushard.specs.Effects.{HasOwners, told, farewell}
 
 -- One more
 
@@ -26,38 +26,36 @@ take_suc (y ∷ ys) (suc i) x is = ap (λ zs. y ∷ zs) (take_suc ys i x is)
 take_next : {X : Type 0} (xs : List X) (i : ℕ) (x : X) → slice_get xs i ≡ Some x → take (i + 1) xs ≡ take i xs ++ x ∷ []
 take_next xs i x is = let more : i + 1 ≡ suc i = omega arith in ap (λ n. take n xs) more ∙ take_suc xs i x is
 
-pub map_next : {X Y : Type 0} (f : X → Y) (xs : List X) (i : ℕ) (x : X) → slice_get xs i ≡ Some x → map f (take (i + 1) xs) ≡ map f (take i xs) ++ f x ∷ []
-map_next f xs i x is = ap (map f) (take_next xs i x is) ∙ map-append f (take i xs) (x ∷ [])
-
 pub flat_map_next : {X Y : Type 0} (f : X → List Y) (xs : List X) (i : ℕ) (x : X) → slice_get xs i ≡ Some x → flat_map f (take (i + 1) xs) ≡ flat_map f (take i xs) ++ f x
 flat_map_next f xs i x is =
     ap (flat_map f) (take_next xs i x is) ∙ flat_map-append f (take i xs) (x ∷ []) ∙ ap (λ ys. flat_map f (take i xs) ++ ys) (append-nil (f x))
 
--- one more socket that gets the frame, unless it is the excepted one
-pub told_next : (frame : Frame) (except : Option ℕ) (xs : List UserSocket) (i owner socket : ℕ) (user : List ℕ) → slice_get xs i ≡ Some (user_socket owner socket user)
-    → told frame except (take (i + 1) xs) ≡ told frame except (take i xs) ++ told_one frame except owner socket
-told_next frame except xs i owner socket user is =
-    let p : UserSocket → Bool = λ r. is_other except r.socket in
-    let r : UserSocket = user_socket owner socket user in
-    ap (told frame except) (take_next xs i r is)
-    ∙ ap (map (to_socket frame)) (filter-append p (take i xs) (r ∷ []))
-    ∙ map-append (to_socket frame) (filter p (take i xs)) (filter p (r ∷ []))
-    ∙ ap (λ ds. told frame except (take i xs) ++ ds) (elim (is_other except socket) as (λ b. map (to_socket frame) (cond b (r ∷ []) []) ≡ cond b (delivery owner socket frame ∷ []) []) [ true ↦ refl | false ↦ refl ])
-
 -- Owners
 
-All-at : {X : Type 0} (P : X → Type 0) (xs : List X) (i : ℕ) (x : X) → slice_get xs i ≡ Some x → All P xs → P x
-All-at P xs i x is all = subst P (get_or_from_slice_get xs i x x is) (All-get_or P xs i x (slice_get_within xs i x is) all)
+-- the owner of a socket is a caller's number
+abbrev pub IsCaller : Holder → Type 0
+IsCaller h = h.owner < 64
 
--- the owner of a row of the user is one of the owners
-pub owner_below : (xs : List UserSocket) (user : List ℕ) (i : ℕ) (r : UserSocket) → slice_get (of_user xs user) i ≡ Some r → All (λ r. r.owner < 64) xs → r.owner < 64
-owner_below xs user i r is all = All-at (λ r. r.owner < 64) (of_user xs user) i r is (All-filter (λ r. bytes_eq r.user user) (λ r. r.owner < 64) xs all)
+-- the owners of the user's sockets are among the owners of all
+pub owners_below : (xs : List UserSocket) (user : List ℕ) → All (λ r. r.owner < 64) xs → All IsCaller (holders_of xs user)
+owners_below xs user all =
+    All-map IsCaller (holder_of (λ (r : UserSocket). r.socket) (λ r. r.owner)) (of_user xs user) (All-filter (λ r. bytes_eq r.user user) (λ r. r.owner < 64) xs all)
+
+-- The holders of rows
+
+-- the frames for the sockets of the user but the excepted one
+pub handed_told : (frame : Frame) (except : Option ℕ) (xs : List UserSocket) (user : List ℕ) → handed frame except (holders_of xs user) ≡ told frame except (of_user xs user)
+handed_told frame except xs user = handed-rows (λ (r : UserSocket). r.socket) (λ r. r.owner) frame except (of_user xs user)
 
 -- Watchers
 
 keep_all : (xs : List UserSocket) → filter (λ r. true) xs ≡ xs
 keep_all [] = refl
 keep_all (x ∷ xs) = ap (λ ys. x ∷ ys) (keep_all xs)
+
+-- each of the user's sockets gets the frame, where none is excepted
+pub handed_all : (frame : Frame) (xs : List UserSocket) (user : List ℕ) → handed frame None (holders_of xs user) ≡ map (to_socket frame) (of_user xs user)
+handed_all frame xs user = handed_told frame None xs user ∙ ap (map (to_socket frame)) (keep_all (of_user xs user))
 
 -- where a socket is signed in as the user, nobody hears of it
 pub tells_none : (online : Bool) (signs seen : List UserSocket) (user : List ℕ) → has_any signs user ≡ true → tell_watchers online signs seen user ≡ []

@@ -1,9 +1,8 @@
 -- The frames that a call makes, by the sign-ins and the watches before it.
-use Rattle.std.specs.Prelude.{ℕ, ◌<◌, false, List, [], ◌∷◌, Option, All, filter, map, if◌then◌else◌}
+use Rattle.std.specs.Prelude.{ℕ, ◌<◌, false, List, Option, All, filter, map}
 use Rattle.ch_base.specs.declared.frame.Frame.{Frame}
 use Rattle.ch_history.specs.declared.rows.UserSocket.{UserSocket}
 use Rattle.ch_history.specs.declared.rows.Delivery.{Delivery}
-use Rattle.ch_history.specs.Deliveries.{delivery}
 use Rattle.ch_history.specs.Frames.{is_other}
 use Rattle.ch_history.specs.UserFrames.{to_socket, tell_watchers}
 use Rattle.ch_watch.specs.Watches.{SignsAndWatches, without}
@@ -12,10 +11,6 @@ use Rattle.ch_watch.specs.Watches.{SignsAndWatches, without}
 pub record HasOwners (w : SignsAndWatches) : Type 0 where
   pub signs : All (λ r. r.owner < 64) w.signs
   pub watches : All (λ r. r.owner < 64) w.watches
-
--- the frame for the socket of its owner, unless that is the excepted one
-abbrev pub told_one : Frame → Option ℕ → ℕ → ℕ → List Delivery
-told_one frame except owner socket = if is_other except socket then delivery owner socket frame ∷ [] else []
 
 -- the frame for each of these sockets but the excepted one
 abbrev pub told : Frame → Option ℕ → List UserSocket → List Delivery

@@ -1,13 +1,14 @@
-ghost use Rattle.std.specs.Prelude.{◌≡◌, ℕ, ◌<◌, [], ◌∷◌, ◌++◌, OnOk};
+ghost use Rattle.std.specs.Prelude.{◌≡◌, ℕ, ◌<◌, [], ◌∷◌, ◌++◌, All, OnOk};
 ghost use Rattle.std.specs.Arc.{arc_value};
 ghost use Rattle.ch_history.specs.Deliveries.{delivery, for_owner};
+ghost use Rattle.ch_outbox.specs.Handed.{handed};
 ghost use Rattle.ch_outbox.specs.Outbox.{frames_of};
 ghost use Rattle.ch_outbox.specs.Room.{HasRoom};
 
-use ch_base::{Memory, Printed, Shared};
+use ch_base::{Memory, Printed};
 use ch_history::Delivery;
-use ch_outbox::Outbox;
-use ch_watch::Holder;
+use ch_outbox::{Outbox, delivery, hand_out};
+use ch_watch::{Holder, Holders};
 use std::alloc::Global;
 use std::marker::Model;
 use std::sync::Arc;
@@ -44,12 +45,22 @@ impl Effects {
         requires { holder.owner < 64 }
         ensures { OnOk result (self.new ≡ self.old ++ delivery holder.owner holder.socket (arc_value printed.now) ∷ []) }
     {
-        let printed = Arc::try_clone(printed)?;
-        self.frames.push(Delivery {
-            owner: holder.owner,
-            item: Shared::new(holder.socket, printed),
-        })?;
+        let delivery = delivery(holder, printed)?;
+        self.frames.push(delivery)?;
         Ok(())
+    }
+
+    /// Adds the frame for each of these sockets but the excepted one. All of them share it.
+    pub fn tell(
+        &mut self,
+        holders: Holders<'_>,
+        printed: &Arc<Printed>,
+        except: Option<u64>,
+    ) -> Result<(), Memory>
+        requires { All (λ h. h.owner < 64) holders }
+        ensures { OnOk result (self.new ≡ self.old ++ handed (arc_value printed.now) except holders.entry) }
+    {
+        hand_out(holders, printed, except, &mut self.frames)
     }
 
     /// Makes room for the frames of each owner. No frames change, also where there is no memory.

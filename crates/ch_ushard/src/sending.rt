@@ -61,14 +61,11 @@ fn for_sockets(
     ensures { IfOk result (λ made. made ≡ map (to_socket frame) (of_user watches.now.signs user.now)) }
 {
     let mut made = Effects::new(press.alloc());
-    let count = watches.sockets(user);
-    if count == 0 {
+    if watches.sockets(user) == 0 {
         return Ok(made);
     }
     let printed = press.print(frame)?;
-    for i in 0..count {
-        made.push(watches.socket(user, i), &printed)?;
-    }
+    made.tell(watches.signed_in(user), &printed, None)?;
     Ok(made)
 }
 

@@ -1,15 +1,14 @@
-ghost use Rattle.std.specs.Prelude.{◌≡◌, ◌++◌, true, IfOk, OnOk, ◌<◌};
+ghost use Rattle.std.specs.Prelude.{◌≡◌, ◌++◌, true, IfOk, OnOk};
 ghost use Rattle.std.specs.Arc.{arc_value};
 ghost use Rattle.ch_base.specs.declared.frame.Frame.TheVariants.{Watch};
-ghost use Rattle.ch_history.specs.Frames.{is_other};
 ghost use Rattle.ch_history.specs.SignIns.{of_user};
 ghost use Rattle.ch_history.specs.UserFrames.{tell_watchers};
-ghost use Rattle.ch_ushard.specs.Effects.{HasOwners, told, told_one};
+ghost use Rattle.ch_ushard.specs.Effects.{HasOwners, told};
 
 use crate::effects::Effects;
 use ch_base::{Frame, Memory, Printed, Text};
 use ch_print::Press;
-use ch_watch::{Holder, Watches};
+use ch_watch::Watches;
 use std::sync::Arc;
 
 /// What tells the watchers of the user that it is online, where no socket is signed in as the user yet.
@@ -45,34 +44,5 @@ pub fn tell(
     requires { HasOwners watches.now }
     ensures { OnOk result (made.new ≡ made.old ++ told (arc_value printed.now) except (of_user watches.now.watches user.now)) }
 {
-    for i in 0..watches.watchers(user) {
-        tell_one(watches.watcher(user, i), printed, except, made)?;
-    }
-    Ok(())
-}
-
-/// Adds the frame for the watcher, unless its socket is the excepted one.
-fn tell_one(
-    watcher: Holder,
-    printed: &Arc<Printed>,
-    except: Option<u64>,
-    made: &mut Effects,
-) -> Result<(), Memory>
-    requires { watcher.owner < 64 }
-    ensures { OnOk result (made.new ≡ made.old ++ told_one (arc_value printed.now) except watcher.owner watcher.socket) }
-{
-    if is_other(except, watcher.socket) {
-        made.push(watcher, printed)?;
-    }
-    Ok(())
-}
-
-/// Whether the socket is another than the excepted one.
-fn is_other(except: Option<u64>, socket: u64) -> bool
-    ensures { result ≡ is_other except socket }
-{
-    match except {
-        None => true,
-        Some(excepted) => socket != excepted,
-    }
+    made.tell(watches.watching(user), printed, except)
 }

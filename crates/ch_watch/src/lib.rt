@@ -5,10 +5,9 @@
 //! Only `sign_in` and `watch` take memory.
 #![tactic(auto)]
 
-mod holder;
 mod rows;
 mod user_rows;
 mod watches;
 
-pub use holder::Holder;
+pub use ch_index::{Holder, Holders};
 pub use watches::Watches;

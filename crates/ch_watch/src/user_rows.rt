@@ -1,12 +1,11 @@
 ghost use Rattle.std.specs.Prelude.{◌≡◌, ◌<◌, [], length, not, IfOk, OnOk, OnErr, IsTrue, Ok, Some, false, slice_get};
 ghost use Rattle.ch_history.specs.SignIns.{user_socket, of_user, has_one_of, users_of, has_any};
-ghost use Rattle.ch_watch.specs.Watches.{added, without};
+ghost use Rattle.ch_watch.specs.Watches.{added, holders_of, without};
 
-use crate::holder::Holder;
 use crate::rows;
 use ch_base::{Memory, Text};
 use ch_history::UserSocket;
-use ch_index::Index;
+use ch_index::{Holder, Holders, Index};
 use std::alloc::Global;
 use std::marker::Model;
 
@@ -101,6 +100,13 @@ impl UserRows {
             },
             None => unreachable!(),
         }
+    }
+
+    /// The user's sockets, each with its owner, in the order of the calls.
+    pub fn holders(&self, user: &Text) -> Holders<'_>
+        ensures { result ≡ holders_of self.now user.now }
+    {
+        self.index.marks(user)
     }
 
     /// How many users the socket has.

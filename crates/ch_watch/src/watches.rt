@@ -1,10 +1,10 @@
 ghost use Rattle.std.specs.Prelude.{◌≡◌, ◌<◌, [], length, not, IfOk, OnOk, OnErr, IsTrue, Ok, Some, false, slice_get};
 ghost use Rattle.ch_history.specs.SignIns.{user_socket, of_user, has_one_of, users_of, has_any};
-ghost use Rattle.ch_watch.specs.Watches.{added, without};
+ghost use Rattle.ch_watch.specs.Watches.{added, holders_of, without};
 
-use crate::holder::Holder;
 use crate::user_rows::UserRows;
 use ch_base::{Memory, Text};
+use ch_index::{Holder, Holders};
 use std::alloc::Global;
 use std::marker::Model;
 
@@ -120,6 +120,13 @@ impl Watches {
         self.signs.holder(user, i)
     }
 
+    /// The sockets that are signed in as the user, each with its owner, in the order of the calls.
+    pub fn signed_in(&self, user: &Text) -> Holders<'_>
+        ensures { result ≡ holders_of self.now.signs user.now }
+    {
+        self.signs.holders(user)
+    }
+
     /// How many sockets watch the user.
     pub fn watchers(&self, user: &Text) -> u64
         ensures { result ≡ length (of_user self.now.watches user.now) }
@@ -134,6 +141,13 @@ impl Watches {
         ensures { slice_get (of_user self.now.watches user.now) i ≡ Some (user_socket result.owner result.socket user.now) }
     {
         self.watches.holder(user, i)
+    }
+
+    /// The sockets that watch the user, each with its owner, in the order of the calls.
+    pub fn watching(&self, user: &Text) -> Holders<'_>
+        ensures { result ≡ holders_of self.now.watches user.now }
+    {
+        self.watches.holders(user)
     }
 
     /// As how many users the socket is signed in.

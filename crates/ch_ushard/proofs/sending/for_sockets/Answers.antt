@@ -1,18 +1,14 @@
-use Rattle.std.proofs.Common.{◌∙◌, ◌++◌, ◌∷◌, [], ap, sym}
-use Rattle.std.specs.Arc.{arc_value}
-use Rattle.ch_base.specs.declared.frame.Frame.{Frame}
-use Rattle.ch_history.specs.Deliveries.{delivery}
-use Rattle.ch_history.specs.SignIns.{of_user}
-use Rattle.ch_history.specs.UserFrames.{to_socket}
-use Rattle.ch_ushard.proofs.Told.{map_next, owner_below}
+use Rattle.std.proofs.Common.{◌∙◌, ◌++◌, None, All, ap, ap₂, sym, subst}
+use Rattle.ch_outbox.specs.Handed.{handed}
+use Rattle.ch_ushard.proofs.Told.{IsCaller, owners_below, handed_all}
 use Rattle.ch_ushard.proofs.sending.for_sockets.Goals as goal
 
-pub push-requires : goal.push-requires
-push-requires c = owner_below c.args.watches.now.signs c.args.user.now c.loop-i.i _ c.socket.ensures c.requires.owners.signs
+pub tell-requires : goal.tell-requires
+tell-requires c = subst (All IsCaller) (sym c.signed_in.ensures) (owners_below c.args.watches.now.signs c.args.user.now c.requires.owners.signs)
 
-pub loop-i-preserved : goal.loop-i-preserved
-loop-i-preserved c =
-    let frame : Frame = arc_value c.in_ok-printed.printed in
-    c.in_ok-push.ensures
-    ∙ ap (λ ds. ds ++ delivery c.socket.result.owner c.socket.result.socket frame ∷ []) c.loop-i.invariant
-    ∙ sym (map_next (to_socket frame) (of_user c.args.watches.now.signs c.args.user.now) c.loop-i.i _ c.socket.ensures)
+pub returns : goal.returns
+returns c =
+    c.in_ok-tell.ensures
+    ∙ ap₂ (λ ds f. ds ++ handed f None c.signed_in.result) c.new-made.ensures c.in_ok-printed.ensures
+    ∙ ap (handed c.args.frame None) c.signed_in.ensures
+    ∙ handed_all c.args.frame c.args.watches.now.signs c.args.user.now

@@ -5,7 +5,7 @@ use Rattle.std.specs.Cmp.Lexicographic.{slice_cmp}
 use Rattle.std.specs.BTreeMap.{is_at}
 use Rattle.std.proofs.lemmas.List.{map-append}
 use Rattle.ch_index.specs.Rows.{EachOnce}
-use Rattle.ch_index.specs.Numbered.{AreBelow, numbers_at, number_of}
+use Rattle.ch_index.specs.Numbered.{AreBelow, marks_at, number_of}
 use Rattle.ch_index.proofs.Once.{EachOnce-push, no_row}
 use Rattle.ch_index.proofs.Adding.{insert_above, put_name, put_socket}
 use Rattle.ch_index.proofs.Undoing.{untake_name, untake_socket}
@@ -15,6 +15,7 @@ pub invariant_of-self-in-Err : goal.invariant_of-self-in-Err
 invariant_of-self-in-Err g c =
     let name = g.R.Row.name in
     let socket = g.R.Row.socket in
+    let mark = g.R.Row.mark in
     let n = c.args.number in
     let r = c.args.row in
     let es = c.self.inside.rows.entries in
@@ -22,8 +23,8 @@ invariant_of-self-in-Err g c =
     record {
       rising = c.self.invariant.rising;
       once = c.self.invariant.once;
-      by_name = λ d. untake_name name c.put.new.self.maps c.take.new.self.maps es n r c.in_ok-name.name d (c.in_ok-name.ensures ∙ c.name.ensures)
-          (λ d. put_name name c.self.inside.by_name.maps c.put.new.self.maps es n r tt c.in_ok-key.key d (c.in_ok-key.ensures ∙ c.name-2.ensures) c.self.invariant.by_name below (c.in_ok-put.ensures.ok d))
+      by_name = λ d. untake_name name mark c.put.new.self.maps c.take.new.self.maps es n r c.in_ok-name.name d (c.in_ok-name.ensures ∙ c.name.ensures)
+          (λ d. put_name name mark c.self.inside.by_name.maps c.put.new.self.maps es n r c.mark.result c.in_ok-key.key d (c.in_ok-key.ensures ∙ c.name-2.ensures) c.mark.ensures c.self.invariant.by_name below (c.in_ok-put.ensures.ok d))
           below (c.take.ensures.entries d);
       by_socket = λ s d. ap (lookup (is_at (slice_cmp nat_cmp d))) (c.in-Err.ensures.err s) ∙ c.self.invariant.by_socket s d;
     }
@@ -32,6 +33,7 @@ pub invariant_of-self-in-Ok-insert : goal.invariant_of-self-in-Ok-insert
 invariant_of-self-in-Ok-insert g c =
     let name = g.R.Row.name in
     let socket = g.R.Row.socket in
+    let mark = g.R.Row.mark in
     let n = c.args.number in
     let r = c.args.row in
     let es : List (ℕ × g.row.R.Denot) = c.self.inside.rows.entries in
@@ -42,8 +44,8 @@ invariant_of-self-in-Ok-insert g c =
     record {
       rising = c.insert.ensures.ordered;
       once = subst (EachOnce name socket) (sym (ap values_of now ∙ map-append (λ (e : ℕ × g.row.R.Denot). e.1) es last)) (EachOnce-push name socket (values_of es) r (no_row name socket es (socket r) (name r) absent) c.self.invariant.once);
-      by_name = λ d. put_name name c.self.inside.by_name.maps c.put.new.self.maps es n r tt c.in_ok-key.key d (c.in_ok-key.ensures ∙ c.name-2.ensures) c.self.invariant.by_name below (c.in_ok-put.ensures.ok d)
-          ∙ sym (ap (λ (fs : List (ℕ × g.row.R.Denot)). numbers_at name fs d) now);
+      by_name = λ d. put_name name mark c.self.inside.by_name.maps c.put.new.self.maps es n r c.mark.result c.in_ok-key.key d (c.in_ok-key.ensures ∙ c.name-2.ensures) c.mark.ensures c.self.invariant.by_name below (c.in_ok-put.ensures.ok d)
+          ∙ sym (ap (λ (fs : List (ℕ × g.row.R.Denot)). marks_at name mark fs d) now);
       by_socket = λ s d. put_socket name socket c.self.inside.by_socket.maps c.put-2.new.self.maps es n r c.socket-socket.result s c.in_ok-socket_key.socket_key d c.socket-socket.ensures (c.in_ok-socket_key.ensures ∙ c.name-4.ensures) c.self.invariant.by_socket absent (c.in-Ok.ensures.found s d)
           ∙ sym (ap (λ (fs : List (ℕ × g.row.R.Denot)). number_of name socket fs s d) now);
     }
@@ -59,6 +61,7 @@ pub invariant_of-self-in-Err-insert : goal.invariant_of-self-in-Err-insert
 invariant_of-self-in-Err-insert g c =
     let name = g.R.Row.name in
     let socket = g.R.Row.socket in
+    let mark = g.R.Row.mark in
     let n = c.args.number in
     let r = c.args.row in
     let es : List (ℕ × g.row.R.Denot) = c.self.inside.rows.entries in
@@ -69,10 +72,10 @@ invariant_of-self-in-Err-insert g c =
     record {
       rising = c.insert.ensures.ordered;
       once = subst (λ (fs : List (ℕ × g.row.R.Denot)). EachOnce name socket (values_of fs)) (sym now) c.self.invariant.once;
-      by_name = λ d. untake_name name c.put.new.self.maps c.take-in-Err-insert.new.self.maps es n r c.in_ok-name.name d its
-          (λ d. put_name name c.self.inside.by_name.maps c.put.new.self.maps es n r tt c.in_ok-key.key d (c.in_ok-key.ensures ∙ c.name-2.ensures) c.self.invariant.by_name below (c.in_ok-put.ensures.ok d))
+      by_name = λ d. untake_name name mark c.put.new.self.maps c.take-in-Err-insert.new.self.maps es n r c.in_ok-name.name d its
+          (λ d. put_name name mark c.self.inside.by_name.maps c.put.new.self.maps es n r c.mark.result c.in_ok-key.key d (c.in_ok-key.ensures ∙ c.name-2.ensures) c.mark.ensures c.self.invariant.by_name below (c.in_ok-put.ensures.ok d))
           below (c.take-in-Err-insert.ensures.entries d)
-          ∙ sym (ap (λ (fs : List (ℕ × g.row.R.Denot)). numbers_at name fs d) now);
+          ∙ sym (ap (λ (fs : List (ℕ × g.row.R.Denot)). marks_at name mark fs d) now);
       by_socket = λ s d. untake_socket name socket c.put-2.new.self.maps c.take-in-Err-insert-2.new.self.maps es n r c.socket-socket.result s c.in_ok-name.name d c.socket-socket.ensures its
           (λ s d. put_socket name socket c.self.inside.by_socket.maps c.put-2.new.self.maps es n r c.socket-socket.result s c.in_ok-socket_key.socket_key d c.socket-socket.ensures (c.in_ok-socket_key.ensures ∙ c.name-4.ensures) c.self.invariant.by_socket absent (c.in-Ok.ensures.found s d))
           absent (c.take-in-Err-insert-2.ensures.found s d)
