@@ -80,8 +80,8 @@ class App:
 
     def has_signed(self, headers, body):
         """Whether this app's server has signed a webhook: the key is the app's, and the signature is that of the bytes as they came."""
-        given = headers.get("X-Pusher-Signature", "")
-        return headers.get("X-Pusher-Key") == self.key and hmac.compare_digest(given, self.signature(body))
+        given = headers.get("X-Pusher-Signature", "").encode()  # as bytes, since a text that isn't ASCII can't be compared
+        return headers.get("X-Pusher-Key") == self.key and hmac.compare_digest(given, self.signature(body).encode())
 
 
 class Socket:
@@ -229,7 +229,8 @@ def run(example):
     paths = [word for word in sys.argv[1:] if not word.startswith("--")]
     try:
         example(App.of(*paths[:1]))
-    except (Failed, OSError) as fault:
-        print(f"failed: {fault}", file=sys.stderr)
+    except (Failed, OSError, http.client.HTTPException) as fault:
+        hint = "; was a server started with this configuration?" if isinstance(fault, ConnectionRefusedError) else ""
+        print(f"failed: {fault}{hint}", file=sys.stderr)
         sys.exit(1)
     saw("ok")
