@@ -30,7 +30,7 @@ def back_end_for(app):
 
     def person_of(form):
         signature, text = form["token"][:64], form["token"][64:]
-        if not hmac.compare_digest(signature, app.signature("person " + text)):
+        if not hmac.compare_digest(signature.encode(), app.signature("person " + text).encode()):
             raise Refused(403)
         return json.loads(text)
 
@@ -74,8 +74,10 @@ def back_end_for(app):
         app.publish(f"#server-to-user-{to}", "whisper", {**person_of(form), "text": text_of(form, 1000)})
 
     def sign_out(form):
-        """Closes all windows of this person, with 4009."""
-        app.request("POST", f"/users/{person_of(form)['id']}/terminate_connections", body={})
+        """Closes all windows of this person, with 4009. The token stays good here; a real back end ends the session too."""
+        status, reply = app.request("POST", f"/users/{person_of(form)['id']}/terminate_connections", body={})
+        if status != 200:
+            raise Failed(f"the server refused to close connections with {status} {reply}")
 
     forms = {
         "/enter": enter, "/auth": subscribe, "/user-auth": sign_in,
@@ -83,6 +85,8 @@ def back_end_for(app):
     }
 
     class BackEnd(BaseHTTPRequestHandler):
+        timeout = 30  # seconds that a read may take, so that a peer that says nothing doesn't keep its thread
+
         def do_GET(self):
             if self.path == "/settings":
                 self.reply(200, json.dumps({"key": app.key, "port": app.port}).encode())
@@ -94,10 +98,15 @@ def back_end_for(app):
                 self.reply(404)
 
         def do_POST(self):
-            body = self.rfile.read(int(self.headers.get("Content-Length", 0)))
+            length = self.headers.get("Content-Length", "")
+            if not re.fullmatch(r"[0-9]{1,7}", length):  # a webhook has little more than 1,000,000 bytes at most
+                return self.reply(400)
+            body = self.rfile.read(int(length))
             try:
                 if self.path == "/hooks":
                     self.take_webhook(body)
+                elif self.path not in forms:
+                    self.reply(404)
                 else:
                     form = dict(urllib.parse.parse_qsl(body.decode(), keep_blank_values=True))
                     self.reply(200, json.dumps(forms[self.path](form) or {}).encode())
@@ -115,7 +124,10 @@ def back_end_for(app):
             self.reply(200)
             for event in json.loads(body)["events"]:
                 saw(f"webhook: {json.dumps(event)}")
-                app.publish(WEBHOOKS, "webhook", event)
+                try:
+                    app.publish(WEBHOOKS, "webhook", event)
+                except (Failed, OSError) as fault:  # such as an event that is too long: the others are shown all the same
+                    saw(f"no page was told of it: {fault}")
 
         def reply(self, status, body=b"", kind="application/json"):
             self.send_response(status)
