@@ -45,7 +45,7 @@ function connect() {
   the("again").hidden = true;
   const mine = new WebSocket(`ws://${location.hostname}:${settings.port}/app/${settings.key}?protocol=7`);
   wire = mine;
-  let quiet = null;
+  let quiet = null, why = null;
   const listen = (seconds) => {
     // after silence the page asks for a sign of life, and then gives the connection up
     clearTimeout(quiet);
@@ -54,12 +54,14 @@ function connect() {
   mine.onmessage = (message) => {
     listen(120);
     const frame = JSON.parse(message.data);
-    hear(frame, mine).catch((fault) => { show(fault.message, "bad"); mine.close(); });
+    hear(frame, mine).catch((fault) => { why = `The page couldn't go on: ${fault.message}.`; mine.close(); });
   };
-  mine.onclose = (end) => { clearTimeout(quiet); if (wire === mine) closed(end.code); };
+  mine.onclose = (end) => { clearTimeout(quiet); if (wire === mine) closed(end.code, why); };
+  listen(120); // from the start, so that a connection that never comes about is given up too
 }
 
-function closed(code) {
+// Why is what the page itself ended the connection for, if it did.
+function closed(code, why) {
   wire = null;
   people.clear();
   showPeople();
@@ -70,7 +72,7 @@ function closed(code) {
   // so that the windows of all people don't come back at the same moment
   const pause = code >= 4200 && code < 4300 && !tries ? 0 : Math.min(LONGEST_PAUSE, 2 ** tries) * (1 + Math.random() / 2);
   tries += 1;
-  show(`${words} Connecting again in ${Math.ceil(pause)} s.`, "bad");
+  show(`${why || words} Connecting again in ${Math.ceil(pause)} s.`, "bad");
   setTimeout(() => { if (!wire) connect(); }, pause * 1000);
 }
 
@@ -168,9 +170,13 @@ function tellTyping() {
 
 async function whisper(to, name) {
   const text = prompt(`To ${name} alone:`);
-  if (!text) return;
-  await ask("/whisper", { to, text });
-  showLine("messages", text, `you (to ${name} alone)`).className = "whisper";
+  if (!text || !text.trim()) return;
+  try {
+    await ask("/whisper", { to, text });
+    showLine("messages", text, `you (to ${name} alone)`).className = "whisper";
+  } catch (fault) {
+    show(`The message wasn't sent: ${fault.message}.`, "bad");
+  }
 }
 
 the("entrance").onsubmit = async (event) => {
@@ -179,7 +185,7 @@ the("entrance").onsubmit = async (event) => {
     settings = await (await fetch("/settings")).json();
     me = await ask("/enter", { text: the("name").value });
   } catch (fault) {
-    return show(`The back end wasn't reached: ${fault.message}.`, "bad");
+    return show(`You weren't let in: ${fault.message}.`, "bad");
   }
   the("entrance").hidden = true;
   for (const id of ["room", "heard", "leave"]) the(id).hidden = false;
