@@ -18,6 +18,6 @@ query="auth_key=$key&auth_timestamp=$(date +%s)&auth_version=1.0"
 query=$(printf %s "$query" | tr '&' '\n' | LC_ALL=C sort -t= -k1,1 | paste -sd '&' -)
 signature=$(printf '%s\n%s\n%s' "$method" "$path" "$query" | openssl dgst -sha256 -hmac "$secret" -r | cut -d' ' -f1)
 
-reply=$(curl -s -X "$method" -w '\n%{http_code}' "http://$host$path?$query&auth_signature=$signature" ${body:+--data-binary "$body"})
+reply=$(curl -sS -X "$method" -w '\n%{http_code}' "http://$host$path?$query&auth_signature=$signature" ${body:+--data-binary "$body"})
 printf '%s\n' "$reply"
 [ "${reply##*$'\n'}" = 200 ]

@@ -6,19 +6,21 @@ once to all but the first.
 """
 from channels import Socket, expect, run
 
+CHANNEL = "publish-example"  # of its own, so that nobody else's subscription is counted
+
 
 def example(app):
     first, second = Socket(app, "first"), Socket(app, "second")
     for each in (first, second):
-        each.subscribe("news")
+        each.subscribe(CHANNEL)
 
-    reply = app.publish("news", "headline", {"text": "It works"}, info="subscription_count")
-    expect(reply, {"channels": {"news": {"subscription_count": 2}}}, "the reply to the back end")
+    reply = app.publish(CHANNEL, "headline", {"text": "It works"}, info="subscription_count")
+    expect(reply, {"channels": {CHANNEL: {"subscription_count": 2}}}, "the reply to the back end")
     for each in (first, second):
         expect(each.wait_for("headline")["data"], {"text": "It works"}, f"what the {each.name} socket heard")
 
-    app.publish("news", "aside", 1, socket_id=first.id)
-    app.publish("news", "end", 2)
+    app.publish(CHANNEL, "aside", 1, socket_id=first.id)
+    app.publish(CHANNEL, "end", 2)
     expect(second.wait_for("aside")["data"], 1, "the event that excepts the first, as the second socket heard it")
     expect(first.hear()["event"], "end", "the next event of the first socket")
     for each in (first, second):

@@ -23,6 +23,8 @@ LONGEST = 70  # seconds, in which a webhook is tried again
 
 def receiver_for(app):
     class Receiver(BaseHTTPRequestHandler):
+        timeout = 10  # seconds that a read may take, so that a peer that says nothing doesn't hold up the others
+
         def do_POST(self):
             body = self.rfile.read(int(self.headers.get("Content-Length", 0)))
             is_signed = app.has_signed(self.headers, body)
