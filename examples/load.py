@@ -54,8 +54,9 @@ class Channelsd:
             json.dump(config, file)
         self.app = App(config)
         self.process = subprocess.Popen([self.program, "serve", path], stdout=subprocess.PIPE, text=True)
-        if not self.process.stdout.readline().startswith("listening"):
-            raise Failed(f"{self.program} doesn't listen")
+        said = self.process.stdout.readline().strip()
+        if not said.startswith("listening"):
+            raise Failed(f"{self.program} doesn't listen: it said '{said}' and ended with {self.process.wait()}")
 
     def subscriber(self):
         client = Socket(self.app)
@@ -92,6 +93,7 @@ class Nchan:
                 return
             except OSError:
                 time.sleep(0.05)
+        self.process.terminate()
         raise Failed("nginx doesn't listen")
 
     def subscriber(self):
@@ -251,7 +253,7 @@ def show(title, values):
 
 def main():
     words = argparse.ArgumentParser(description=__doc__.split("\n")[0])
-    words.add_argument("--sockets", type=int, default=500)
+    words.add_argument("--sockets", type=int, default=500, help="at most 16,096: 63 workers with 256 each, less the publishers")
     words.add_argument("--messages", type=int, default=200, help="one at a time; four times as many are then sent side by side")
     words.add_argument("--rounds", type=int, default=3)
     words.add_argument("--idle", type=float, default=5, help="seconds")
