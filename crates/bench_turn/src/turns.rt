@@ -1,6 +1,5 @@
 //! Calls under a turn lock.
-ghost use Rattle.std.specs.Prelude.{◌≡◌, ◌≤◌, All, length, IfSome};
-ghost use Rattle.ch_turn.specs.PassModels.{LockModel};
+ghost use Rattle.std.specs.Prelude.{◌≡◌, ◌≤◌, All, IfSome};
 
 use ch_turn::{Add, Pass, PassList, Tally, TurnLock};
 use std::alloc::Global;

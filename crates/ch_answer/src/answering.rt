@@ -1,11 +1,10 @@
-ghost use Rattle.std.specs.Prelude.{◌≡◌, List, IfOk};
+ghost use Rattle.std.specs.Prelude.{List};
 ghost use Rattle.ch_api.specs.Servable.{AreServable};
 ghost use Rattle.ch_config.specs.Config.{IsConfig};
 ghost use Rattle.ch_desk.specs.OwnEntries.{Makes};
 ghost use Rattle.ch_desk.specs.Views.{IsDeskOf};
 ghost use Rattle.ch_history.specs.Limits.{IsMoment};
 ghost use Rattle.ch_protocol.specs.Asks.{Asked};
-ghost use Rattle.ch_requests.specs.Replies.{reply_to};
 ghost use Rattle.ch_answer.specs.Answers.{IsAnswer, IsPlanAnswer};
 
 use ch_api::{Plan, Planned, finish, plan};

@@ -1,6 +1,6 @@
 //! What is done with an authorized request that asks for channels or users, or closes a user's connections (Pusher Channels
 //! documentation, HTTP API, "GET channels", "GET channel", "GET users" and "POST terminate user connections").
-ghost use Rattle.std.specs.Prelude.{◌≡◌, ◌∷◌, [], codes, map, IfOk, ℕ};
+ghost use Rattle.std.specs.Prelude.{◌≡◌, ◌∷◌, [], codes, map, IfOk};
 ghost use Rattle.std.specs.List.{range_with_len};
 ghost use Rattle.std.specs.Option.{option_copied};
 ghost use Rattle.ch_config.specs.Config.{IsConfig};

@@ -1,4 +1,4 @@
-ghost use Rattle.std.specs.Prelude.{◌≡◌, ◌+◌, ◌<◌, ◌≤◌, ◌↔◌, ℕ, [], All, IfOk, IfSome, None, OnErr, OnOk, length, option_copied, option_map, slice_get, slice_index_or, ◌++◌, map, option_to_list};
+ghost use Rattle.std.specs.Prelude.{◌≡◌, ◌+◌, ◌<◌, ◌≤◌, ◌↔◌, ℕ, [], All, IfOk, IfSome, None, OnErr, OnOk, length, option_map, slice_get, ◌++◌, map, option_to_list};
 ghost use Rattle.ch_history.specs.Limits.{IsMoment};
 ghost use Rattle.ch_batch.specs.declared.limits.TheConstants.{MOST_TRIES};
 ghost use Rattle.ch_webhooks.specs.Batching.{after_cut, cut_now, nothing_yet, with_events};

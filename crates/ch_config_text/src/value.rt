@@ -1,11 +1,11 @@
-ghost use Rattle.std.specs.Prelude.{◌≡◌, ℕ, IfOk, MatchResult, true, Ok, Err};
+ghost use Rattle.std.specs.Prelude.{◌≡◌, IfOk, MatchResult, true, Ok, Err};
 ghost use Rattle.std.specs.List.{list_all};
 ghost use Rattle.std.specs.Char.{is_ascii_alphanumeric};
 ghost use Rattle.serde_json.specs.View.{view};
 ghost use Rattle.serde_json.specs.Find.{as_str, as_bool};
 ghost use Rattle.ch_config.specs.Config.{IsCount};
 ghost use Rattle.ch_config_text.specs.Judging.{required, defaulted, Answers};
-ghost use Rattle.ch_config_text.specs.Words.{is_word, is_secret};
+ghost use Rattle.ch_config_text.specs.Words.{is_word};
 ghost use Rattle.ch_config_text.specs.Values.{word_in, secret_in, count_in, address_in, webhook_in};
 ghost use Rattle.ch_config_text.specs.Addresses.{built_in_address};
 ghost use Rattle.ch_config_text.specs.declared.field.Field.TheVariants.{ClientEvents, Listen, Webhook};

@@ -7,7 +7,6 @@ use Rattle.ch_desk.proofs.OwnEntries.{gains_front, own_gain}
 use Rattle.ch_base.specs.Growth.{entry}
 use Rattle.ch_base.specs.declared.channel.ChanAnswer.{ChanAnswer}
 use Rattle.ch_base.specs.declared.channel.ChanCall.{ChanCall}
-use Rattle.ch_base.specs.declared.entry.Entry.{Entry}
 use Rattle.ch_base.specs.declared.user.UserAnswer.{UserAnswer}
 use Rattle.ch_base.specs.declared.user.UserCall.{UserCall}
 use Rattle.ch_history.specs.Alone.{with_call, with_user_call}
@@ -23,9 +22,9 @@ use Rattle.ch_protocol.specs.declared.ask.Ask.{Ask}
 use Rattle.ch_protocol.specs.declared.ask.Ask.TheVariants.{Chan, User}
 use Rattle.ch_protocol.specs.declared.ask.Made.{Made}
 use Rattle.ch_protocol.specs.declared.ask.Made.TheVariants as made
-use Rattle.ch_desk.specs.AloneCalls.{AloneBefore, CallsAlone, ComesAlone, IsAlone, IsAt}
-use Rattle.ch_desk.specs.OwnEntries.{Gains, IsAnswered, Makes, entries_on_chan, entries_on_user, entry_on_chan, entry_on_user, was_made}
-use Rattle.ch_desk.specs.Views.{DeskView, IsLegalDesk, MayAsk}
+use Rattle.ch_desk.specs.AloneCalls.{AloneBefore, CallsAlone}
+use Rattle.ch_desk.specs.OwnEntries.{Gains, IsAnswered, entries_on_chan, entries_on_user, entry_on_chan, entry_on_user, was_made}
+use Rattle.ch_desk.specs.Views.{DeskView, MayAsk}
 
 -- ---- one ask
 

@@ -1,4 +1,4 @@
-ghost use Rattle.std.specs.Prelude.{◌≡◌, ◌∷◌, ℕ, List, All};
+ghost use Rattle.std.specs.Prelude.{◌∷◌, List, All};
 ghost use Rattle.ch_desk.specs.Views.{MayAsk};
 ghost use Rattle.ch_history.specs.Limits.{IsMoment};
 ghost use Rattle.ch_protocol.specs.declared.ask.Ask.{Ask};

@@ -1,5 +1,5 @@
 //! What a drill prints.
-ghost use Rattle.std.specs.Prelude.{◌≡◌, ◌<◌, ◌^◌, IfOk, string_bytes};
+ghost use Rattle.std.specs.Prelude.{◌≡◌, ◌<◌, IfOk, string_bytes};
 ghost use Rattle.ch_drill.specs.DrillCounts.{IsCounted};
 ghost use Rattle.ch_drill.specs.DrillText.{usage_line, count_line, total_line, text_of};
 

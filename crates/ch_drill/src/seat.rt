@@ -1,5 +1,5 @@
 //! A worker of a drill at its desk.
-ghost use Rattle.std.specs.Prelude.{◌≡◌, ◌≤◌, ◌+◌, length, IfOk};
+ghost use Rattle.std.specs.Prelude.{◌≡◌, ◌≤◌, ◌+◌, IfOk};
 ghost use Rattle.ch_config.specs.Config.{IsConfig};
 ghost use Rattle.ch_house.specs.Houses.{ArePassesOf, chan_count, user_count};
 ghost use Rattle.ch_worker.specs.Workers.{new_worker};

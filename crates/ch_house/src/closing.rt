@@ -1,7 +1,7 @@
 //! How a row ends: all passes go back to the lists of their locks, and then each lock is closed.
 ghost use Rattle.std.specs.Prelude.{◌≡◌, ℕ, ◌<◌, ◌≤◌, [], length, map, slice_get, slice_index_or, None, Some, vec_capacity};
 ghost use Rattle.ch_turn.specs.declared.closing.Closed.{Closed as closed};
-ghost use Rattle.ch_turn.specs.PassModels.{LockModel, PassModel, PassListModel, IsWhole, HasHistory};
+ghost use Rattle.ch_turn.specs.PassModels.{PassModel, PassListModel, IsWhole, HasHistory};
 ghost use Rattle.ch_house.specs.Columns.{with_pass};
 
 use ch_base::Served;

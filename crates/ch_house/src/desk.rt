@@ -1,5 +1,5 @@
 //! Where a caller of a house sits.
-ghost use Rattle.std.specs.Prelude.{◌≡◌, ◌≢◌, ◌<◌, ℕ, length, IfOk, IsOk};
+ghost use Rattle.std.specs.Prelude.{◌≡◌, ◌≢◌, ◌<◌, ℕ, length, IsOk};
 ghost use Rattle.ch_base.specs.Growth.{GrowsBy};
 ghost use Rattle.ch_base.specs.declared.channel.ChanCall.TheVariants as chan_call;
 ghost use Rattle.ch_base.specs.declared.user.UserCall.TheVariants as user_call;

@@ -1,5 +1,5 @@
 //! A row of locks.
-ghost use Rattle.std.specs.Prelude.{◌≡◌, ◌≢◌, ℕ, ◌^◌, ◌<◌, ◌≤◌, [], length, map, All, slice_get, slice_index_or, None, Some, IfOk, IsOk};
+ghost use Rattle.std.specs.Prelude.{◌≡◌, ℕ, ◌^◌, ◌<◌, ◌≤◌, [], length, map, All, slice_get, slice_index_or, None, Some, IfOk, IsOk};
 ghost use Rattle.ch_base.specs.Growth.{GrowsBy};
 ghost use Rattle.ch_turn.specs.Callers.{CallersBelow};
 ghost use Rattle.ch_turn.specs.declared.closing.Closed.{Closed as closed};

@@ -2,7 +2,7 @@ ghost use Rattle.std.specs.Prelude.{◌≡◌, ◌≤◌, IfOk, drop, length, So
 ghost use Rattle.ch_requests.specs.Fields.{is};
 ghost use Rattle.ch_requests.specs.Heads.{IsHeading, first_bytes, is_full, whole};
 ghost use Rattle.ch_requests.specs.Routes.{get_method};
-ghost use Rattle.ch_requests.specs.Verdict.{IsVerdict, look_behind, with_route, with_name, with_body, with_length, request_of, is_upgrade};
+ghost use Rattle.ch_requests.specs.Verdict.{IsVerdict, look_behind, with_route, with_body, with_length, request_of, is_upgrade};
 
 use crate::field::field_lists;
 use crate::first_bytes::{first_bytes, is_full};

@@ -1,5 +1,5 @@
 -- The part of a text that a rule takes off is such a part in front of any other text.
-use Rattle.std.proofs.Common.{◌≡◌, ◌⊎◌, inl, inr, ℕ, zero, suc, ◌+◌, ◌-◌, ◌<◌, ◌≤◌, List, [], ◌∷◌, ◌++◌, append_assoc, append-nil, length, length-append, take, drop, Bool, true, refl, sym, ap, ap₂, ◌∙◌, subst, arith}
+use Rattle.std.proofs.Common.{◌≡◌, inl, inr, ℕ, zero, suc, ◌+◌, ◌-◌, ◌≤◌, List, [], ◌∷◌, ◌++◌, append_assoc, append-nil, length, length-append, take, drop, Bool, refl, sym, ap, ap₂, ◌∙◌, subst, arith}
 use Rattle.ch_base.specs.Grammar.{Rule, Byte, One, ◌then◌, ◌or◌, Maybe, Many}
 use Rattle.ch_base.specs.JsonTree.{Span, Plain, null, no, yes, number, string, Tree, plain, array, object, Items, no_items, item, Members, no_members, member}
 use Rattle.ch_base.specs.JsonText.{is_blank, Blanks, is_digit, is_digit_1_to_9, is_e, is_sign, Digits, Whole, Fraction, Exponent, Number, Char, spelling, Chars, String, PlainValue, Value, Items_, MoreItems, Members_, MoreMembers, SpellsWithin}

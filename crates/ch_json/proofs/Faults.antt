@@ -2,7 +2,7 @@
 use Rattle.std.proofs.lemmas.Bool.{eqb-true, cases_lt}
 use Rattle.std.proofs.lemmas.List.{take_more, length-take-le, take-append-drop}
 use Rattle.std.proofs.Common.{◌==◌, take-add, take_all, ◌≡◌, ◌⊎◌, inl, inr, ℕ, zero, suc, ◌+◌, ◌-◌, ◌<◌, ◌≤◌, List, [], ◌∷◌, ◌++◌, length, append_assoc, take, drop, get_or, Bool, true, false, cond, Some, None, refl, sym, ap, ◌∙◌, subst, arith}
-use Rattle.ch_base.specs.JsonTree.{Span, Plain, Tree, Items, no_items, item, Members, no_members, member}
+use Rattle.ch_base.specs.JsonTree.{Plain, Tree, no_items, Members}
 use Rattle.ch_base.specs.JsonTree as tree
 use Rattle.ch_base.specs.JsonText.{SpellsWithin, is_blank}
 use Rattle.ch_base.specs.declared.limits.TheConstants.{MAX_DEPTH}

@@ -1,7 +1,7 @@
 -- The fronts of JSON texts are the texts that are read without a fault.
 use Rattle.std.proofs.Common.{◌≡◌, inl, inr, ℕ, zero, suc, ◌+◌, ◌-◌, ◌≤◌, List, [], ◌∷◌, ◌++◌, length, length-append, append-nil, Option, Some, None, refl, sym, ap, ap₂, ◌∙◌, subst, arith}
 use Rattle.ch_base.specs.Grammar.{Byte, ◌then◌}
-use Rattle.ch_base.specs.JsonTree.{Span, Plain, Tree, Items, no_items, item, Members, no_members, member}
+use Rattle.ch_base.specs.JsonTree.{Span, Tree, no_items, item, Members, no_members, member}
 use Rattle.ch_base.specs.JsonTree as tree
 use Rattle.ch_base.specs.JsonText.{Blanks, Value, SpellsWithin}
 use Rattle.ch_json.specs.Front.{IsFront}

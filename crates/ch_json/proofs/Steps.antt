@@ -6,7 +6,7 @@ use Rattle.ch_base.specs.JsonTree.{Span, Plain, Tree, Items, no_items, item, Mem
 use Rattle.ch_base.specs.JsonTree as tree
 use Rattle.ch_base.specs.JsonText.{is_blank, Blanks, is_digit, is_digit_1_to_9, Value, Items_, MoreItems, Members_, MoreMembers, PlainValue, Chars}
 use Rattle.ch_json.specs.Scalars as scalars
-use Rattle.ch_json.specs.Scalars.{InString, chars, StringStep, ends, on, fault, string_step, RestOfString, AfterStringStep, InNumber, minus, NumberStep, more, stop, number_step, may_end, RestOfNumber, AfterNumberStep}
+use Rattle.ch_json.specs.Scalars.{chars, StringStep, ends, on, fault, string_step, AfterStringStep, InNumber, minus, NumberStep, more, stop, number_step, may_end, RestOfNumber, AfterNumberStep}
 use Rattle.ch_json.specs.Machine.{span, Frame, in_array, in_object, Mode, value, first_item, first_key, next_key, key, colon, word, number, string, after, Outcome, go, wrong, onto, onto_members, open_bracket, start_number, start, after_step, in_word, string_outcome, key_outcome, number_outcome, step, Goes, BehindValue, AtValue, AtColon, AtKey, Completes, AfterStep}
 use Rattle.ch_json.proofs.Choice.{either_way, when_so, when_not}
 use Rattle.ch_json.proofs.Strings.{One-cons, same_eqb, string_on, string_back}

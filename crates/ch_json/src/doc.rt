@@ -1,6 +1,6 @@
 //! A JSON text that was read: its values, each with its part of the text.
 ghost use Rattle.std.specs.Prelude.{◌≡◌, ◌<◌, ℕ, List, Some, map, slice_get};
-ghost use Rattle.ch_base.specs.JsonTree.{Span as TreeSpan, Tree, Members, plain, string, object};
+ghost use Rattle.ch_base.specs.JsonTree.{Span as TreeSpan, Tree, plain, string};
 ghost use Rattle.ch_base.specs.JsonText.{Spells};
 ghost use Rattle.ch_base.specs.JsonParts.{spelled_at, values_of, names_of, IsSpelledIn};
 ghost use Rattle.ch_json.specs.Entries.{held, span_of};

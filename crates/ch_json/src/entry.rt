@@ -1,5 +1,5 @@
 //! How a document stores its values: a value's entry stands behind the entries of what it holds.
-ghost use Rattle.std.specs.Prelude.{◌≡◌, ◌<◌, length, slice_index, slice_get, Some};
+ghost use Rattle.std.specs.Prelude.{◌≡◌, ◌<◌, length, slice_get, Some};
 ghost use Rattle.ch_json.specs.Content.{form_of_content, values_in, keys_in};
 
 use crate::node::Form;

@@ -1,5 +1,5 @@
 //! Reading a text, a byte at a time, with a stack of the open brackets in place of recursion.
-ghost use Rattle.std.specs.Prelude.{◌≡◌, ◌∷◌, true, false, drop, map, ℕ, ◌+◌, ◌<◌, ◌^◌, List, length, [], ◌++◌};
+ghost use Rattle.std.specs.Prelude.{◌≡◌, ◌∷◌, true, false, drop, map, ℕ, ◌+◌, ◌<◌, ◌^◌, List, []};
 ghost use Rattle.ch_base.specs.JsonTree.{Tree, Items, Members};
 ghost use Rattle.ch_base.specs.JsonText.{is_blank};
 ghost use Rattle.ch_json.specs.Document.{Shows};

@@ -1,4 +1,4 @@
-ghost use Rattle.std.specs.Prelude.{[], ◌∷◌};
+ghost use Rattle.std.specs.Prelude.{[]};
 ghost use Rattle.ch_live.specs.Answers.{farewell_texts, last_texts, closing_codes, FarewellHasCause, LastHasCause};
 ghost use Rattle.ch_live.specs.Turns.{EndsWith};
 ghost use Rattle.ch_net.specs.Wires.{WireMoves};

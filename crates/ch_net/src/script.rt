@@ -1,4 +1,3 @@
-ghost use Rattle.std.specs.Prelude.{◌≡◌};
 ghost use Rattle.ch_io.specs.Counts.{NeverFall};
 ghost use Rattle.ch_net.specs.Scripts.{StepHasCause};
 

@@ -1,4 +1,4 @@
-ghost use Rattle.std.specs.Prelude.{◌≡◌, IfOk};
+ghost use Rattle.std.specs.Prelude.{IfOk};
 ghost use Rattle.ch_config.specs.Config.{IsConfig};
 ghost use Rattle.ch_history.specs.Limits.{IsMoment, IsSocket};
 ghost use Rattle.ch_protocol.specs.Targets.{target_refusal};

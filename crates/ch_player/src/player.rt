@@ -12,7 +12,7 @@ ghost use Rattle.ch_base.specs.declared.limits.TheConstants.{LATEST_MOMENT};
 ghost use Rattle.ch_transcript.specs.Gathering.{gathers};
 ghost use Rattle.ch_transcript.specs.Obeying.{opens, tails, publishes, may_except};
 ghost use Rattle.ch_transcript.specs.Outcomes.{Plays};
-ghost use Rattle.ch_transcript.specs.Progress.{Progress, Played, beginning};
+ghost use Rattle.ch_transcript.specs.Progress.{Progress, beginning};
 ghost use Rattle.ch_transcript.specs.Rounds.{rounds};
 ghost use Rattle.ch_transcript.specs.Turns.{ticks, ends_turn};
 

@@ -1,4 +1,4 @@
-ghost use Rattle.std.specs.Prelude.{◌≡◌, ◌≤◌, length, IfOk};
+ghost use Rattle.std.specs.Prelude.{◌≡◌, IfOk};
 ghost use Rattle.ch_config.specs.Config.{IsConfig};
 ghost use Rattle.ch_history.specs.Placement.{shard_of, named_channel};
 ghost use Rattle.ch_history.specs.WellFormed.{IsWellFormed};

@@ -1,13 +1,13 @@
 -- A request that was written, and the response that was read: what the post answers.
-use Rattle.std.proofs.Common.{◌≡◌, ◌∙◌, ◌⊎◌, ℕ, Bool, true, false, List, [], ◌++◌, length, ap, sym, subst, refl, inl, inr, append-nil, arith}
-use Rattle.std.specs.Prelude.{Option, Some, None}
+use Rattle.std.proofs.Common.{◌≡◌, ◌∙◌, ◌⊎◌, ℕ, Bool, true, false, List, [], ap, sym, subst, refl, inl, inr, append-nil, arith}
+use Rattle.std.specs.Prelude.{Some, None}
 use Rattle.ch_edge.specs.Ends.{IsNewLink}
 use Rattle.ch_io.specs.declared.post.Posted.{Posted}
 use Rattle.ch_io.specs.declared.post.Posted.TheVariants.{Status, Failed}
 use Rattle.ch_net.specs.Laws.{LinksLaw}
 use Rattle.ch_net.specs.Links.{LinkTold, LinkMoves}
-use Rattle.ch_post.specs.Posts.{Answers, HasNoLine, HasOtherLine, Talks, TellsAnswer}
-use Rattle.ch_post.specs.StatusLines.{first_line, status_in}
+use Rattle.ch_post.specs.Posts.{Answers, HasNoLine, Talks, TellsAnswer}
+use Rattle.ch_post.specs.StatusLines.{first_line}
 use Rattle.ch_post.specs.Talks.{TalkView, IsStuck, IsEnough, HasWritten, Reads}
 use Rattle.ch_post.specs.declared.seen.TheConstants.{MOST_SEEN}
 

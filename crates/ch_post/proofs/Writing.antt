@@ -1,5 +1,5 @@
 -- A request that is written and a response that is read, step by step.
-use Rattle.std.proofs.Common.{◌≡◌, ◌∙◌, ℕ, ◌≤◌, Bool, true, false, List, [], ◌++◌, length, take, drop, ap, sym, subst, refl, append_assoc, append-nil, inl, inr, arith}
+use Rattle.std.proofs.Common.{◌≡◌, ◌∙◌, ℕ, Bool, true, false, List, [], ◌++◌, take, drop, ap, sym, subst, refl, append_assoc, append-nil, inl, inr, arith}
 use Rattle.std.proofs.lemmas.List.{take-append-drop}
 use Rattle.ch_net.specs.Laws.{LinksLaw}
 use Rattle.ch_net.specs.Links.{LinkTold, LinkMoves}

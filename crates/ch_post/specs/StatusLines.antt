@@ -1,5 +1,5 @@
 -- The first line of a response (RFC 9112, section 4).
-use Rattle.std.specs.Prelude.{ℕ, ◌+◌, ◌-◌, ◌*◌, ◌==◌, Bool, eqb, ◌&&◌, ◌||◌, List, [], ◌∷◌, take, drop, codes, Option, Some, None, if◌then◌else◌}
+use Rattle.std.specs.Prelude.{ℕ, ◌+◌, ◌-◌, ◌*◌, ◌==◌, Bool, eqb, ◌&&◌, ◌||◌, List, ◌∷◌, take, drop, codes, Option, Some, None, if◌then◌else◌}
 use Rattle.std.specs.Char.{is_ascii_digit}
 use Rattle.std.specs.List.{position_from, starts_with}
 use Rattle.std.specs.Option.{option_map}

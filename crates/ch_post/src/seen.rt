@@ -1,4 +1,4 @@
-ghost use Rattle.std.specs.Prelude.{◌≡◌, ◌≤◌, ◌-◌, ◌++◌, ◌↔◌, ◌<◌, [], length, take, IsTrue, option_map};
+ghost use Rattle.std.specs.Prelude.{◌≡◌, ◌≤◌, ◌-◌, ◌++◌, [], length, take};
 ghost use Rattle.ch_post.specs.declared.seen.TheConstants.{MOST_SEEN};
 ghost use Rattle.ch_post.specs.StatusLines.{first_line};
 

@@ -1,4 +1,4 @@
-ghost use Rattle.std.specs.Prelude.{◌≡◌, ◌&&◌, length, find, slice_get, Some, if◌then◌else◌};
+ghost use Rattle.std.specs.Prelude.{◌≡◌, ◌&&◌, length, find, slice_get, Some};
 ghost use Rattle.std.specs.Option.{option_copied};
 ghost use Rattle.ch_presence.specs.Members.{members_on, ids_on};
 ghost use Rattle.ch_presence.specs.Users.{is_above, is_lower, least_with, with_member, users_of, infos_of};

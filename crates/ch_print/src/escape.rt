@@ -1,7 +1,7 @@
 //! The escaping of strings.
 ghost use Rattle.std.specs.Prelude.{◌≡◌, ◌++◌, length, take, IfOk, OnOk, OnErr, string_bytes, true, [], ◌∷◌, ◌<◌};
 ghost use Rattle.std.specs.Char.{digit_char};
-ghost use Rattle.ch_base.specs.Escape.{escaped, escaped_byte, escape_letter, needs_escape, quoted};
+ghost use Rattle.ch_base.specs.Escape.{escaped, escaped_byte, needs_escape, quoted};
 
 use ch_base::{Memory, Text};
 use std::alloc::Global;

@@ -1,6 +1,6 @@
 -- What a client's text says: a message, or the code of its first fault (Pusher Channels protocol, "Events that clients
 -- send" and "Client events").
-use Rattle.std.specs.Prelude.{◌≡◌, ◌⊎◌, ℕ, Bool, ◌||◌, not, List, length, nat_lt, bytes_eq, codes, Result, Ok, Err, MatchBool, if◌then◌else◌}
+use Rattle.std.specs.Prelude.{◌≡◌, ◌⊎◌, ℕ, ◌||◌, not, List, length, nat_lt, bytes_eq, codes, Result, Ok, Err, MatchBool, if◌then◌else◌}
 use Rattle.ch_base.specs.JsonTree.{Span, object, Members}
 use Rattle.ch_history.specs.ChannelName.{begins, is_good_name}
 use Rattle.ch_history.specs.UserChannels.{is_subscribable}

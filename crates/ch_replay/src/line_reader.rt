@@ -1,7 +1,6 @@
-ghost use Rattle.std.specs.Prelude.{◌≡◌, ℕ, ◌+◌, ◌<◌, ◌≤◌, ◌∷◌, [], true, false, length, take, slice_index, MatchOption, MatchResult, MatchBool};
+ghost use Rattle.std.specs.Prelude.{◌≡◌, ℕ, ◌+◌, ◌<◌, ◌≤◌, [], true, false, length, take, slice_index, MatchOption, MatchResult, MatchBool};
 ghost use Rattle.std.specs.Io.KnownBytes.{Consumes, IsAtEnd};
 ghost use Rattle.ch_io.specs.Counts.{Rose};
-ghost use Rattle.ch_io.specs.Reads.{given};
 ghost use Rattle.ch_transcript.specs.Lines.{has_byte};
 
 use ch_base::Memory;

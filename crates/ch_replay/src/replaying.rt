@@ -1,11 +1,11 @@
-ghost use Rattle.std.specs.Prelude.{◌≡◌, ◌≤◌, ◌^◌, ◌↔◌, true, false, MatchResult, IfOk, IfErr, IsErr, IfSome, OnOk, ◌⊎◌};
+ghost use Rattle.std.specs.Prelude.{◌≡◌, ◌≤◌, ◌↔◌, true, false, MatchResult, IfOk, IfErr, IsErr, IfSome, OnOk, ◌⊎◌};
 ghost use Rattle.std.specs.Option.{option_copied};
 ghost use Rattle.ch_io.specs.Counts.{Rose};
 ghost use Rattle.ch_outcomes.specs.Answered.{AnswersOutcome, Refusal, IsReadTo};
 ghost use Rattle.ch_transcript.specs.Printing.{error_line, long_line};
 ghost use Rattle.ch_transcript.specs.Replayed.{Ran, WritesLast, status_of};
 ghost use Rattle.ch_transcript.specs.Outcomes.{Plays, Outcome, HasOutcome};
-ghost use Rattle.ch_transcript.specs.Progress.{Progress, beginning};
+ghost use Rattle.ch_transcript.specs.Progress.{Progress};
 ghost use Rattle.ch_config.specs.Config.{IsConfig};
 ghost use Rattle.ch_player.specs.Playing.{IsAt, IsSoundPlayer, config_of};
 ghost use Rattle.ch_replay.specs.ConfigLines.{config_or_line, fault_line, Declines};

@@ -9,7 +9,6 @@ use Rattle.ch_sig.specs.declared.query.Param.{Param}
 use Rattle.ch_requests.specs.Queries.{has_double}
 use Rattle.ch_requests.specs.Replies.{body_of, refusal, reply_text}
 use Rattle.ch_requests.specs.Routes.{route_of}
-use Rattle.ch_requests.specs.declared.head.Head.{Head}
 use Rattle.ch_requests.specs.declared.head.HeadField.{HeadField}
 use Rattle.ch_requests.specs.declared.plan.ReplyForm.TheVariants.{Empty, Triggered, Channels as ChannelsForm, Channel as ChannelForm, Users}
 use Rattle.ch_requests.specs.declared.request.Route.{Route}

@@ -1,6 +1,6 @@
-ghost use Rattle.std.specs.Prelude.{◌≡◌, IfOk, ℕ, None, Option};
+ghost use Rattle.std.specs.Prelude.{◌≡◌, IfOk, None, Option};
 ghost use Rattle.std.specs.Option.{option_copied};
-ghost use Rattle.ch_transcript.specs.Commands.{first_part, more_parts, number_in, open_in, say_in, join_of, join_in, sign_in_in, lose_in, tick_in, tail_in, publish_of, publish_on, publish_in, except_in, command_by, command_in};
+ghost use Rattle.ch_transcript.specs.Commands.{first_part, more_parts, number_in, open_in, say_in, join_of, join_in, sign_in_in, lose_in, tick_in, tail_in, publish_of, publish_in, except_in, command_by, command_in};
 
 use crate::parts::{first_part, more_parts, read_number};
 use crate::requests::{read_api, read_http};

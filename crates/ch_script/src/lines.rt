@@ -1,6 +1,6 @@
 ghost use Rattle.std.specs.Prelude.{◌≡◌, IfOk};
 ghost use Rattle.std.specs.Option.{option_copied};
-ghost use Rattle.ch_transcript.specs.Commands.{first_part, more_parts, number_in, command_of, command_after, timed, line_in, line_of, is_skipped, IsLine};
+ghost use Rattle.ch_transcript.specs.Commands.{first_part, more_parts, number_in, command_after, timed, line_in, line_of, is_skipped, IsLine};
 
 use crate::commands::read_command;
 use crate::parts::{first_part, more_parts, read_number};

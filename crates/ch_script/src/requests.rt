@@ -1,6 +1,5 @@
 //! The commands of the app's back end.
 ghost use Rattle.std.specs.Prelude.{◌≡◌, IfOk};
-ghost use Rattle.std.specs.List.{list_all};
 ghost use Rattle.std.specs.Option.{option_copied};
 ghost use Rattle.hex.specs.Hex.{decode_of};
 ghost use Rattle.ch_transcript.specs.Commands.{first_part, more_parts, method_in, is_plain_byte, is_plain, query_in, or_empty, api_of, api_on, api_in, http_of};

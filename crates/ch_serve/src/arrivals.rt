@@ -1,7 +1,6 @@
 //! The connections that a worker's thread takes from the intake.
-ghost use Rattle.std.specs.Prelude.{◌≡◌, ◌≤◌, IfOk};
+ghost use Rattle.std.specs.Prelude.{◌≡◌, ◌≤◌};
 ghost use Rattle.ch_base.specs.declared.limits.TheConstants.{LATEST_MOMENT};
-ghost use Rattle.ch_io.specs.Moments.{GivesMoment};
 
 use crate::numbered::Numbered;
 use ch_edge::{Park, Pause};

@@ -1,4 +1,4 @@
-ghost use Rattle.std.specs.Prelude.{◌≡◌, ◌<◌, ◌≤◌, ◌+◌, ◌-◌, ◌∷◌, [], nat_le, length, replicate, true, false, None, Some, slice_set, IfOk, ◌++◌, List, ℕ};
+ghost use Rattle.std.specs.Prelude.{◌≡◌, ◌<◌, ◌≤◌, ◌+◌, ◌-◌, [], nat_le, length, replicate, true, false, None, Some, slice_set, IfOk, List, ℕ};
 ghost use Rattle.std.specs.Option.{option_or, option_copied};
 ghost use Rattle.ch_rate.specs.Rate.{IsRateOf, rate_allows};
 ghost use Rattle.ch_protocol.specs.Settling.{count_after};

@@ -1,4 +1,4 @@
-ghost use Rattle.std.specs.Prelude.{◌≡◌, ◌≤◌, ◌&&◌, not, [], ℕ, List, IfOk, IsTrue, is_none};
+ghost use Rattle.std.specs.Prelude.{◌≡◌, ◌&&◌, not, [], ℕ, List, IfOk, IsTrue, is_none};
 ghost use Rattle.std.specs.Option.{option_copied};
 ghost use Rattle.ch_config.specs.Config.{IsConfig};
 ghost use Rattle.ch_history.specs.ChannelName.{is_good_name, needs_auth, has_members, may_say};

@@ -1,17 +1,15 @@
-ghost use Rattle.std.specs.Prelude.{◌≡◌, ◌≤◌, ◌+◌, ◌^◌, ◌⊎◌, ◌∷◌, [], ℕ, List, None, Some, OnOk, IfOk, IfErr, IfSome, length, drop, slice_get};
+ghost use Rattle.std.specs.Prelude.{◌≡◌, ◌+◌, [], ℕ, List, None, Some, OnOk, IfOk, IfErr, IfSome, drop, slice_get};
 ghost use Rattle.ch_config.specs.Config.{IsConfig};
 ghost use Rattle.ch_config.specs.declared.config.Config.{Config};
 ghost use Rattle.ch_history.specs.Limits.{IsSocket, IsMoment};
 ghost use Rattle.ch_rate.specs.Quiet.{quiet_from, due_of, quiet_after};
-ghost use Rattle.ch_protocol.specs.Settling.{SettledAsk, settled_with};
-ghost use Rattle.ch_protocol.specs.Sessions.{outcome};
+ghost use Rattle.ch_protocol.specs.Settling.{SettledAsk};
 ghost use Rattle.ch_protocol.specs.Targets.{target_refusal};
 ghost use Rattle.ch_protocol.specs.declared.ask.Ask.{Ask};
 ghost use Rattle.ch_session.specs.Judging.{IsSoundAsk};
-ghost use Rattle.ch_session.specs.Kept.{IsSession, HasShardsOf, MaySettle, left_after, losses_left};
+ghost use Rattle.ch_session.specs.Kept.{IsSession, HasShardsOf, losses_left};
 ghost use Rattle.ch_session.specs.Losses.{IsNextUsed, IsNextLoss, loss_at};
 ghost use Rattle.ch_session.specs.StartFaults.{IsFaultOf};
-ghost use Rattle.ch_session.specs.Waits.{Awaits, HoldsData};
 
 use crate::account::Account;
 use crate::start_fault::StartFault;

@@ -1,14 +1,11 @@
 ghost use Rattle.std.specs.Prelude.{◌≡◌, ◌∷◌, ℕ, List, length};
 ghost use Rattle.ch_history.specs.Limits.{IsMoment};
-ghost use Rattle.ch_rate.specs.Rate.{IsRateOf};
 ghost use Rattle.ch_protocol.specs.Sessions.{chan_outcome, user_outcome, memory_outcome};
-ghost use Rattle.ch_protocol.specs.Settling.{count_after};
 ghost use Rattle.ch_protocol.specs.declared.ask.Ask.{Ask};
 ghost use Rattle.ch_protocol.specs.declared.ask.Made.TheVariants.{Chan, User};
 ghost use Rattle.ch_session.specs.Kept.{MaySettle, IsSettled};
 ghost use Rattle.ch_protocol.specs.Asks.{ComesOf};
-ghost use Rattle.ch_session.specs.Told.{accepted_with, used_with};
-ghost use Rattle.ch_session.specs.Waits.{Awaits, HoldsData, chan_shard_of};
+ghost use Rattle.ch_session.specs.Waits.{Awaits, HoldsData};
 
 use crate::session::Session;
 use crate::waiting::Waiting;

@@ -1,4 +1,4 @@
-ghost use Rattle.std.specs.Prelude.{◌≡◌, ◌≤◌, [], ◌∷◌, ◌++◌, ℕ, List, map, IfOk, IfSome};
+ghost use Rattle.std.specs.Prelude.{◌≡◌, ◌≤◌, ◌∷◌, ◌++◌, ℕ, List, map, IfOk, IfSome};
 ghost use Rattle.ch_config.specs.Config.{IsConfig};
 ghost use Rattle.ch_frames.specs.Checked.{IsGoodUser};
 ghost use Rattle.ch_history.specs.Limits.{IsMoment};

@@ -1,8 +1,8 @@
-ghost use Rattle.std.specs.Prelude.{◌≡◌, IfOk, IsTrue, string_bytes, option_map, ℕ, List, Option};
+ghost use Rattle.std.specs.Prelude.{◌≡◌, IfOk, IsTrue, option_map, Option};
 ghost use Rattle.std.specs.Char.{is_ascii_digit};
 ghost use Rattle.std.specs.List.{list_all, list_any};
 ghost use Rattle.ch_history.specs.ChannelName.{begins};
-ghost use Rattle.ch_protocol.specs.Targets.{target_refusal, path_of, query_of, app_in, app_prefix, is_app_path, is_slash, version_in, version_refusal, form_text, first_value};
+ghost use Rattle.ch_protocol.specs.Targets.{target_refusal, path_of, query_of, app_in, app_prefix, is_app_path, is_slash, version_in, version_refusal, form_text};
 
 use ch_base::{
     INVALID_VERSION, Memory, NO_VERSION, Text, UNKNOWN_APP, UNKNOWN_PATH, UNSUPPORTED_VERSION,

@@ -32,7 +32,7 @@ pub struct Drawn {
 }
 
 impl Drawn {
-    ghost use Rattle.std.specs.Prelude.{◌≡◌, [], OnOk, OnErr};
+    ghost use Rattle.std.specs.Prelude.{◌≡◌, OnOk};
     ghost use Rattle.ch_soak.specs.Generator.{transcript};
     ghost use Rattle.ch_soak.specs.Drawing.{left_of, IsReady};
 

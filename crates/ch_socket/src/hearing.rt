@@ -1,4 +1,4 @@
-ghost use Rattle.std.specs.Prelude.{◌≡◌, ℕ, IfOk, OnErr};
+ghost use Rattle.std.specs.Prelude.{◌≡◌, IfOk, OnErr};
 ghost use Rattle.ch_config.specs.Config.{IsConfig};
 ghost use Rattle.ch_desk.specs.AloneCalls.{IsAlone, IsAt};
 ghost use Rattle.ch_desk.specs.Views.{IsDeskOf};

@@ -1,4 +1,4 @@
-ghost use Rattle.std.specs.Prelude.{◌≡◌, OnOk};
+ghost use Rattle.std.specs.Prelude.{OnOk};
 ghost use Rattle.ch_desk.specs.AloneCalls.{IsAlone, IsAt};
 ghost use Rattle.ch_history.specs.Limits.{IsMoment};
 ghost use Rattle.ch_protocol.specs.Shards.{Shards, loses};

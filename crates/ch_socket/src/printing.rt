@@ -1,7 +1,7 @@
 ghost use Rattle.std.specs.Prelude.{◌≡◌, ◌++◌, IfOk, OnErr, OnOk, string_bytes, codes};
 ghost use Rattle.std.specs.Fmt.{decimal};
 ghost use Rattle.ch_base.specs.declared.frame.Frame.{Frame};
-ghost use Rattle.ch_transcript.specs.Printing.{socket_line, frame_line, close_line, end_lines, sent_line};
+ghost use Rattle.ch_transcript.specs.Printing.{socket_line, frame_line, close_line, end_lines};
 
 use ch_base::{ChanAnswer, Frame, Memory, Printed, Text};
 use ch_frames::print;

@@ -1,4 +1,4 @@
-ghost use Rattle.std.specs.Prelude.{◌≡◌, ℕ, List, IfOk};
+ghost use Rattle.std.specs.Prelude.{ℕ, List, IfOk};
 ghost use Rattle.ch_config.specs.declared.config.Config.{Config};
 ghost use Rattle.ch_desk.specs.AloneCalls.{IsAlone};
 ghost use Rattle.ch_history.specs.Limits.{IsMoment};

@@ -1,5 +1,5 @@
 -- What the bytes of a request write, and how the shards are then.
-use Rattle.std.specs.Prelude.{ℕ, false, List, Option, Some, None, MatchBool}
+use Rattle.std.specs.Prelude.{ℕ, false, List, Option, MatchBool}
 use Rattle.ch_config.specs.declared.config.Config.{Config}
 use Rattle.ch_protocol.specs.Shards.{Shards, made_of_all, after_asks}
 use Rattle.ch_requests.specs.Authorization.{is_authorized}

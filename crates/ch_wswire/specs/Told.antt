@@ -1,5 +1,5 @@
 -- What links and wires over sockets tell of themselves: their counts, how a wire was closed, and no content.
-use Rattle.std.specs.Prelude.{ℕ, List, Option, None}
+use Rattle.std.specs.Prelude.{None}
 use Rattle.ch_io.specs.declared.counts.Counts.{Counts}
 use Rattle.ch_net.specs.Links.{LinkTold}
 use Rattle.ch_net.specs.Wires.{WireTold}

@@ -1,4 +1,4 @@
-ghost use Rattle.std.specs.Prelude.{◌≡◌, ◌<◌, IfOk};
+ghost use Rattle.std.specs.Prelude.{◌<◌};
 
 use ch_base::{ChanCall, Hook, HookList, Memory, Text};
 use ch_batch::{Batcher, Step};

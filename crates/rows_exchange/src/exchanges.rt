@@ -1,5 +1,4 @@
 //! An exchange from its first turn to its end.
-ghost use Rattle.std.specs.Prelude.{◌≡◌};
 ghost use Rattle.ch_config.specs.Config.{IsConfig};
 ghost use Rattle.ch_desk.specs.Bench.{view_of};
 ghost use Rattle.ch_desk.specs.Views.{IsDeskOf};

@@ -1,7 +1,6 @@
 //! Exchanges over links of which a call fails, and at a desk that is short of memory. The requests are of the app `1` with the
 //! key `k` and the secret `s`, signed at the second 1,000; the digest of a body is that of `openssl md5`, and a signature that
 //! of `openssl dgst -sha256 -hmac s`.
-ghost use Rattle.std.specs.Prelude.{◌≡◌};
 ghost use Rattle.ch_config.specs.Config.{IsConfig};
 ghost use Rattle.ch_desk.specs.Views.{IsDeskOf};
 ghost use Rattle.ch_exchange.specs.Turns.{IsUnfinished};

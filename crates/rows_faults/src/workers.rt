@@ -1,5 +1,4 @@
 //! A worker whose connection fails at each of its calls in turn.
-ghost use Rattle.std.specs.Prelude.{◌≡◌};
 ghost use Rattle.ch_config.specs.Config.{IsConfig};
 
 use crate::letters::letters;

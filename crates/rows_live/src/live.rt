@@ -1,7 +1,6 @@
-ghost use Rattle.std.specs.Prelude.{◌≡◌, ◌≤◌, ◌^◌, length, IfOk};
+ghost use Rattle.std.specs.Prelude.{IfOk};
 ghost use Rattle.ch_config.specs.Config.{IsConfig};
 ghost use Rattle.ch_config.specs.declared.config.Config.{Config};
-ghost use Rattle.ch_history.specs.Limits.{IsMoment};
 ghost use Rattle.ch_live.specs.Peers.{IsPeerOver};
 
 use ch_base::{Frame, Memory, Text};

@@ -1,5 +1,5 @@
 //! The calls of a channel shard, each by the letter that the shard's tail has for it.
-ghost use Rattle.std.specs.Prelude.{◌<◌, length, IfOk, IsTrue, None};
+ghost use Rattle.std.specs.Prelude.{◌<◌, IfOk, IsTrue, None};
 ghost use Rattle.ch_history.specs.ChannelName.{is_good_name, is_presence, kind_of, may_say};
 ghost use Rattle.ch_history.specs.Limits.{IsSocket, is_user_id};
 ghost use Rattle.ch_history.specs.WellFormed.{IsMember, IsMemberOf, IsWellFormed};

@@ -1,5 +1,5 @@
-use Rattle.std.proofs.Common.{refl, sym, ap, ◌∙◌, ◌∷◌, [], ◌++◌}
-use Rattle.ch_desk.proofs.MakingSteps.{Begun-none, Begun-next, Begun-all, Begun-stop, split_at, May-at}
+use Rattle.std.proofs.Common.{ap, ◌∙◌, ◌∷◌, [], ◌++◌}
+use Rattle.ch_desk.proofs.MakingSteps.{Begun-none, Begun-next, Begun-stop, split_at, May-at}
 use Rattle.ch_protocol.specs.declared.ask.Made.{Made}
 use Rattle.ch_desk.proofs.making.make_all.Goals as goal
 

@@ -1,5 +1,5 @@
 use Rattle.std.proofs.Common.{◌∙◌, ap}
-use Rattle.ch_protocol.specs.ClientMessages.{ClientEvent, Verdict, SaysEvent, SubscribeShape, UnsubscribeShape, SignInShape, SayShape, event_of}
+use Rattle.ch_protocol.specs.ClientMessages.{SaysEvent, SubscribeShape, UnsubscribeShape, SignInShape, SayShape, event_of}
 use Rattle.ch_protocol.specs.ClientMessages as event
 use Rattle.ch_frames.proofs.VerdictsOf.{tells_judged, tells_event}
 use Rattle.ch_frames.proofs.message.said_by_event.Goals as goal

@@ -1,6 +1,6 @@
 use Rattle.std.proofs.Common.{◌+◌, ◌-◌, length, cond}
 use Rattle.ch_post.specs.declared.talk.TheConstants.{MOST_STALLS}
-use Rattle.ch_post.specs.Talks.{IsPatient, TalkView}
+use Rattle.ch_post.specs.Talks.{IsPatient}
 use Rattle.ch_post.proofs.Writing.{Wrote}
 use Rattle.ch_post.proofs.talk.Talk.write.Given as goal
 
