@@ -33,7 +33,7 @@ pub use error_codes::{
 pub use frame::{Frame, FrameFor};
 pub use frame_list::FrameList;
 pub use items::{Bytes, HookList, Items, MemberList, NameRows, TextList};
-pub use limits::{LATEST_MOMENT, MAX_DEPTH};
+pub use limits::{LATEST_MOMENT, MAX_CALLERS, MAX_DEPTH};
 pub use memory::Memory;
 pub use printed::Printed;
 pub use served::Served;

@@ -1,5 +1,6 @@
 ghost use Rattle.std.specs.Prelude.{◌≡◌, ◌<◌, ℕ, List, [], ◌∷◌, ◌++◌, IfOk, OnErr, IsOk};
 ghost use Rattle.ch_base.specs.declared.entry.Entry.{Entry};
+ghost use Rattle.ch_base.specs.declared.limits.TheConstants.{MAX_CALLERS};
 
 use crate::memory::Memory;
 
@@ -27,9 +28,9 @@ pub trait Served: Drop {
     /// Which histories the value stands for.
     ghost stands: { Self → List (Entry Self.Call Self.Answer) → Type 0 };
 
-    /// Serves one call of a caller, who has a number below 64.
+    /// Serves one call of a caller, who has a number below `MAX_CALLERS`.
     fn serve(&mut self, caller: u64, call: &Self::Call) -> Result<Self::Answer, Memory>
-        requires caller { caller < 64 }
+        requires caller { caller < MAX_CALLERS }
         requires fits { fits (place self.old) call.now }
         ensures place { place self.new ≡ place self.old }
         ensures served { IfOk result (λ a. (h : List (Entry Self.Call Self.Answer)) → stands self.old h → stands self.new (h ++ record { caller = caller; call = call.now; answer = a } ∷ [])) }

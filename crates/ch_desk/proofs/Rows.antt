@@ -6,6 +6,7 @@ use Rattle.std.proofs.lemmas.List.{length-set, length-map, length_push, get_or-m
 use Rattle.ch_base.specs.Growth.{entry, own, GrowsBy}
 use Rattle.ch_base.specs.declared.entry.Entry.{Entry}
 use Rattle.ch_base.specs.declared.memory.Memory.{Memory}
+use Rattle.ch_config.specs.declared.limits.TheConstants.{MAX_SHARDS}
 use Rattle.ch_desk.specs.Alone.{IsNext}
 use Rattle.ch_desk.specs.OwnEntries.{AreBy}
 use Rattle.ch_desk.specs.Rows.{history, IsSeat, IsRow}
@@ -73,9 +74,9 @@ module _ {T C A : Type 0} (place : T → ℕ × ℕ) (stands : T → List (Entry
         empty = each_more (λ j x. history x ≡ []) seats s are.empty here;
       }
 
-  pub fresh_row : (n : ℕ) (seats : List (Seat T C A)) → AreFresh n n seats → 1 ≤ n → n ≤ 64 → IsRow place stands seats
+  pub fresh_row : (n : ℕ) (seats : List (Seat T C A)) → AreFresh n n seats → 1 ≤ n → n ≤ MAX_SHARDS → IsRow place stands seats
   fresh_row n seats are some few =
-      subst (λ i. 1 ≤ i → i ≤ 64 → AreFresh i i seats → IsRow place stands seats) are.count
+      subst (λ i. 1 ≤ i → i ≤ MAX_SHARDS → AreFresh i i seats → IsRow place stands seats) are.count
       (λ more less is. record { some = omega (arith, are.count); few = omega (arith, are.count); each = subst (λ i. (j : ℕ) → j < length seats → (d : Seat T C A) → IsSeat place stands (j, i) (slice_index_or seats j d)) (sym are.count) are.each })
       some few are
 

@@ -1,5 +1,6 @@
 ghost use Rattle.std.specs.Prelude.{◌≡◌, ◌<◌, ◌≤◌, ℕ, IfOk};
 ghost use Rattle.ch_base.specs.Growth.{GrowsBy};
+ghost use Rattle.ch_base.specs.declared.limits.TheConstants.{MAX_CALLERS};
 ghost use Rattle.ch_config.specs.declared.limits.TheConstants.{MAX_SHARDS};
 ghost use Rattle.ch_history.specs.AnswerKinds.{IsAnswerTo, IsUserAnswerTo};
 ghost use Rattle.ch_history.specs.Placement.{IsLegalAt, IsUserLegalAt};
@@ -14,10 +15,10 @@ pub trait Desk<R> {
     /// What contracts see of it: for each shard, the list of its entries as this caller knows it.
     ghost view: { Self → DeskView };
 
-    /// The caller's number, below 64.
+    /// The caller's number, below `MAX_CALLERS`.
     fn caller(&self) -> u64
         ensures caller { result ≡ (view self.now).caller }
-        ensures small { result < 64 };
+        ensures small { result < MAX_CALLERS };
 
     /// How many channel shards there are: 1 to `MAX_SHARDS`. What the caller knows of each is a legal history of calls
     /// that belong to it.

@@ -1,5 +1,5 @@
 -- A call on one lock of a row.
-use Rattle.std.proofs.Common.{◌≡◌, ℕ, ◌+◌, ◌^◌, ◌<◌, ◌≤◌, List, [], length, map, get_or, set, Some, sym, refl, ap, ◌∙◌, subst, arith, length-set}
+use Rattle.std.proofs.Common.{◌≡◌, ℕ, ◌+◌, ◌<◌, ◌≤◌, List, [], length, map, get_or, set, Some, sym, refl, ap, ◌∙◌, subst, arith, length-set}
 use Rattle.std.specs.Prelude.{slice_get, Result}
 use Rattle.std.proofs.lemmas.List.{get_or-map, map-set}
 use Rattle.std.proofs.lemmas.Option.{slice_get_read, slice_get_within, get_or_from_slice_get, same_Some}
@@ -12,6 +12,7 @@ use Rattle.ch_turn.specs.PassModels.{LockModel, PassModel}
 use Rattle.ch_house.specs.Rows.{RowModel, RowPassesModel, row_model, IsRow, place_of, seen, calls_on, after_call}
 use Rattle.ch_house.specs.Columns.{IsPassAt, AreOfRow}
 use Rattle.ch_house.proofs.Places.{get_set_same, get_set_other, get_within}
+use Rattle.ch_turn.specs.declared.limits.TheConstants.{MOST_CALLS}
 
 -- the place of the value in lock k
 pub place_at : (row : RowModel) (k : ℕ) (l : LockModel) → slice_get row.locks k ≡ Some l → place_of row k ≡ l.place
@@ -63,7 +64,7 @@ module _ {C A : Type 0} (legal : ℕ × ℕ → List (Entry C A) → Type 0) whe
     pub is_legal : legal (place_of row k) (seen after k)
     pub known : CallersBelow row.callers (seen after k)
     pub same : after ≡ after_call before k (seen after k)
-    pub most : calls_on after k ≤ 2 ^ 56
+    pub most : calls_on after k ≤ MOST_CALLS
 
   module _ (row : RowModel) (caller : ℕ) (passes : List (PassModel C A)) (k : ℕ) (l : LockModel) (p q : PassModel C A)
       (own : AreOfRow legal row caller passes) (lock : slice_get row.locks k ≡ Some l) (at : slice_get passes k ≡ Some p) where
@@ -81,7 +82,7 @@ module _ {C A : Type 0} (legal : ℕ × ℕ → List (Entry C A) → Type 0) whe
         }) known
 
     has_called_here : {M : Type 0} (call : C) (r : Result A M) → q ≡ after_one p q → GrowsBy p.caller call r p.seen q.seen
-        → legal l.place q.seen → CallersBelow row.callers q.seen → q.calls ≤ 2 ^ 56 → HasCalled row (passes_view row caller passes) (passes_view row caller (set passes k q)) k call r
+        → legal l.place q.seen → CallersBelow row.callers q.seen → q.calls ≤ MOST_CALLS → HasCalled row (passes_view row caller passes) (passes_view row caller (set passes k q)) k call r
     has_called_here call r same grows lawful known most =
         let within : k < length passes = slice_get_within passes k p at in
         let now : slice_get (set passes k q) k ≡ Some q = get_set_same passes k q within in
@@ -99,7 +100,7 @@ module _ {C A : Type 0} (legal : ℕ × ℕ → List (Entry C A) → Type 0) whe
           is_legal = subst (λ (w : (ℕ × ℕ) × List (Entry C A)). legal w.0 w.1) (λ i. (sym (place_at row k l lock) i, sym new_seen i)) lawful;
           known = subst (CallersBelow row.callers) (sym new_seen) known;
           same = λ i. record { row = row; caller = caller; lists = lists i; calls = counts i };
-          most = subst (λ (n : ℕ). n ≤ 2 ^ 56) (sym new_calls) most;
+          most = subst (λ (n : ℕ). n ≤ MOST_CALLS) (sym new_calls) most;
         }
 
   -- the lock and the pass at k
@@ -135,7 +136,7 @@ module _ {C A : Type 0} (legal : ℕ × ℕ → List (Entry C A) → Type 0) whe
     own_then same lawful known = subst (λ (z : RowModel). AreOfRow legal z caller (set passes k q)) (sym read.row_is) (own_after row caller passes k l p q own_row read.lock read.pass same lawful (known_row known))
 
     pub called : {M : Type 0} (old : RowPassesModel C A) → passes_view inner caller passes ≡ old → (call : C) (r : Result A M) → q ≡ after_one p q
-        → GrowsBy p.caller call r p.seen q.seen → legal l.place q.seen → CallersBelow l.callers q.seen → q.calls ≤ 2 ^ 56 → HasCalled row old (passes_view inner caller (set passes k q)) k call r
+        → GrowsBy p.caller call r p.seen q.seen → legal l.place q.seen → CallersBelow l.callers q.seen → q.calls ≤ MOST_CALLS → HasCalled row old (passes_view inner caller (set passes k q)) k call r
     called {M} old view call r same grows lawful known most =
         let made : HasCalled row (passes_view row caller passes) (passes_view row caller (set passes k q)) k call r = has_called_here row caller passes k l p q own_row read.lock read.pass call r same grows lawful (known_row known) most in
         let back : HasCalled row (passes_view inner caller passes) (passes_view inner caller (set passes k q)) k call r =

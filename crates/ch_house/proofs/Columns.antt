@@ -8,6 +8,7 @@ use Rattle.std.proofs.lemmas.Option.{same_Some, none-some, slice_get_read, slice
 use Rattle.ch_base.specs.declared.entry.Entry.{Entry}
 use mathlib.Core.Logic.{dite}
 use native.Mathlib.Decide.{ℕ_discrete, dec_lt}
+use Rattle.ch_base.specs.declared.limits.TheConstants.{MAX_CALLERS}
 use Rattle.ch_turn.specs.Callers.{CallersBelow, GrowsByOthers}
 use Rattle.ch_turn.specs.PassModels.{LockModel, PassModel, PassListModel, IsPassOf, HasHistory, fresh_pass}
 use Rattle.ch_turn.specs.declared.closing.Closed.{Closed}
@@ -215,7 +216,7 @@ module _ {C A : Type 0} where
         was : (k : ℕ) (n : PassListModel C A) → slice_get now k ≡ Some n → (m : PassListModel C A) × (slice_get lists k ≡ Some m) × (without_pass i m ≡ n)
         was k n at = get_map_back (without_pass i) lists k n (ap (λ (ns : List (PassListModel C A)). slice_get ns k) (sym made) ∙ at)
 
-    module _ (legal : ℕ × ℕ → List (Entry C A) → Type 0) (few : row.callers ≤ 64) (passes : List (PassModel C A)) (long : length passes ≡ length lists)
+    module _ (legal : ℕ × ℕ → List (Entry C A) → Type 0) (few : row.callers ≤ MAX_CALLERS) (passes : List (PassModel C A)) (long : length passes ≡ length lists)
         (taken : (k : ℕ) (m : PassListModel C A) (p : PassModel C A) → slice_get lists k ≡ Some m → slice_get passes k ≡ Some p → (get_or m.slots i None ≡ Some p) × IsPassOf legal m.lock i p) where
       -- each pass is the first one of its lock
       first_pass : (k : ℕ) (l : LockModel) (p : PassModel C A) → slice_get row.locks k ≡ Some l → slice_get passes k ≡ Some p → (p ≡ fresh_pass l i) × legal l.place p.seen

@@ -8,8 +8,10 @@ use mathlib.Core.Logic.{dite}
 use native.Mathlib.Decide.{dec_lt}
 use Rattle.ch_base.specs.declared.channel.ChanCall.{ChanCall}
 use Rattle.ch_base.specs.declared.channel.ChanAnswer.{ChanAnswer}
+use Rattle.ch_base.specs.declared.limits.TheConstants.{MAX_CALLERS}
 use Rattle.ch_base.specs.declared.user.UserCall.{UserCall}
 use Rattle.ch_base.specs.declared.user.UserAnswer.{UserAnswer}
+use Rattle.ch_config.specs.declared.limits.TheConstants.{MAX_SHARDS}
 use Rattle.ch_history.specs.Placement.{IsLegalAt, IsUserLegalAt}
 use Rattle.ch_turn.specs.Callers.{CallersBelow}
 use Rattle.ch_turn.specs.PassModels.{LockModel}
@@ -29,7 +31,7 @@ each_place r ps n is long all k within =
     let count = count_by_places r ps n is long in
     ap (λ (l : List (ℕ × ℕ)). get_or l k (0, 0)) is ∙ (all k (omega arith) ∙ (λ i. (k, sym count i)))
 
-pub IsHouse-new : (chans users : RowModel) (n m : ℕ) (ps qs : List (ℕ × ℕ)) → (1 ≤ n) × (n ≤ 64) → (1 ≤ m) × (m ≤ 64) → places chans ≡ ps → length ps ≡ n → AreAllPlaces n ps → places users ≡ qs → length qs ≡ m → AreAllPlaces m qs
+pub IsHouse-new : (chans users : RowModel) (n m : ℕ) (ps qs : List (ℕ × ℕ)) → (1 ≤ n) × (n ≤ MAX_SHARDS) → (1 ≤ m) × (m ≤ MAX_SHARDS) → places chans ≡ ps → length ps ≡ n → AreAllPlaces n ps → places users ≡ qs → length qs ≡ m → AreAllPlaces m qs
     → users.callers ≡ chans.callers → IsHouse (record { chans = chans; users = users })
 IsHouse-new chans users n m ps qs bounds user_bounds is long all user_is user_long user_all callers =
     let count = count_by_places chans ps n is long in
@@ -54,7 +56,7 @@ nothing_seen [] k = refl
 nothing_seen (l ∷ locks) zero = refl
 nothing_seen (l ∷ locks) (suc k) = nothing_seen locks k
 
-IsPasses-fresh : (house : HouseModel) → IsHouse house → house.chans.callers ≤ 64 → (i : ℕ) → i < house.chans.callers → IsPasses (fresh_passes house i)
+IsPasses-fresh : (house : HouseModel) → IsHouse house → house.chans.callers ≤ MAX_CALLERS → (i : ℕ) → i < house.chans.callers → IsPasses (fresh_passes house i)
 IsPasses-fresh house is few i below = record {
   is_house = is;
   small = omega arith;
@@ -75,7 +77,7 @@ module _ (chans : RowPassesListModel ChanCall ChanAnswer) (users : RowPassesList
   pub count_slots : length (all_passes chans.slots users.slots) ≡ w
   count_slots = length-all_passes chans.slots users.slots (user_many ∙ sym many) ∙ many
 
-  pub IsPassesList-new : IsHouse (record { chans = chans.row; users = users.row }) → chans.row.callers ≡ w → w ≤ 64 → IsPassesList chans users
+  pub IsPassesList-new : IsHouse (record { chans = chans.row; users = users.row }) → chans.row.callers ≡ w → w ≤ MAX_CALLERS → IsPassesList chans users
   IsPassesList-new home callers few = record {
     is_house = home;
     many = many ∙ sym callers;
@@ -86,7 +88,7 @@ module _ (chans : RowPassesListModel ChanCall ChanAnswer) (users : RowPassesList
     each = λ i p at. dite (dec_lt i w)
         (λ (below : i < w).
         let under : i < chans.row.callers = omega arith in
-        let small : chans.row.callers ≤ 64 = omega arith in
+        let small : chans.row.callers ≤ MAX_CALLERS = omega arith in
         subst IsPasses (same_Some (fresh_passes (record { chans = chans.row; users = users.row }) i) p (sym (fresh_slots i below) ∙ at)) (IsPasses-fresh (record { chans = chans.row; users = users.row }) home small i under))
         (λ beyond. let count = count_slots in absurd (none-some p (sym (get_or_past (all_passes chans.slots users.slots) i None (omega arith)) ∙ at)));
     same_number = λ i a b at user_at. dite (dec_lt i w)

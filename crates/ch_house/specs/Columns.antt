@@ -2,6 +2,7 @@
 -- back to them.
 use Rattle.std.specs.Prelude.{◌≡◌, ℕ, ◌<◌, ◌≤◌, List, length, map, Option, Some, None, slice_get, slice_index_or, slice_set}
 use Rattle.ch_base.specs.declared.entry.Entry.{Entry}
+use Rattle.ch_base.specs.declared.limits.TheConstants.{MAX_CALLERS}
 use Rattle.ch_turn.specs.Callers.{CallersBelow}
 use Rattle.ch_turn.specs.PassModels.{LockModel, PassModel, PassListModel, fresh_pass}
 use Rattle.ch_house.specs.Rows.{RowModel, RowPassesModel, seen, ArePassesOf}
@@ -59,7 +60,7 @@ module _ {C A : Type 0} (legal : ℕ × ℕ → List (Entry C A) → Type 0) whe
 
   -- there is a pass of this caller for each lock of the row, and all that it has seen is of the row's callers
   pub record AreOfRow (row : RowModel) (caller : ℕ) (passes : List (PassModel C A)) : Type 0 where
-    pub few_callers : row.callers ≤ 64
+    pub few_callers : row.callers ≤ MAX_CALLERS
     pub caller_below : caller < row.callers
     pub count : length passes ≡ length row.locks
     pub each : (k : ℕ) (l : LockModel) (p : PassModel C A) → slice_get row.locks k ≡ Some l → slice_get passes k ≡ Some p

@@ -3,6 +3,7 @@ use Rattle.std.specs.Prelude.{◌≡◌, ℕ, ◌<◌, ◌≤◌, List, [], leng
 use Rattle.std.specs.List.{zip}
 use Rattle.ch_base.specs.declared.channel.ChanCall.{ChanCall}
 use Rattle.ch_base.specs.declared.channel.ChanAnswer.{ChanAnswer}
+use Rattle.ch_base.specs.declared.limits.TheConstants.{MAX_CALLERS}
 use Rattle.ch_base.specs.declared.user.UserCall.{UserCall}
 use Rattle.ch_base.specs.declared.user.UserAnswer.{UserAnswer}
 use Rattle.ch_config.specs.declared.limits.TheConstants.{MAX_SHARDS}
@@ -62,7 +63,7 @@ pub record IsHouse (house : HouseModel) : Type 0 where
 -- there is a history of each shard of the house, which is legal at its place and of the house's callers
 pub record IsPasses (passes : PassesModel) : Type 0 where
   pub is_house : IsHouse passes.house
-  pub small : passes.caller < 64
+  pub small : passes.caller < MAX_CALLERS
   pub below : passes.caller < passes.house.chans.callers
   pub count : length passes.chans ≡ chan_count passes.house
   pub legal : (k : ℕ) → k < length passes.chans → IsLegalAt (k, length passes.chans) (seen passes k)

@@ -1,6 +1,8 @@
 -- What contracts see of a row of locks, and of the passes of its callers.
 use Rattle.std.specs.Prelude.{◌≡◌, ℕ, ◌+◌, ◌<◌, ◌≤◌, List, [], length, map, Option, Some, None, IsSome, slice_get, slice_index_or, slice_set}
 use Rattle.ch_base.specs.declared.entry.Entry.{Entry}
+use Rattle.ch_base.specs.declared.limits.TheConstants.{MAX_CALLERS}
+use Rattle.ch_config.specs.declared.limits.TheConstants.{MAX_SHARDS}
 use Rattle.ch_turn.specs.declared.closing.Closed.{Closed}
 use Rattle.ch_turn.specs.Callers.{CallersBelow, GrowsByOthers}
 use Rattle.ch_turn.specs.PassModels.{LockModel}
@@ -21,12 +23,12 @@ places row = map (λ l. l.place) row.locks
 abbrev pub place_of : RowModel → ℕ → ℕ × ℕ
 place_of row k = slice_index_or (places row) k (0, 0)
 
--- a row has 1 to 64 locks, each with the same 1 to 64 callers
+-- a row has at least one lock, each with the same callers, of which there is at least one
 pub record IsRow (row : RowModel) : Type 0 where
   pub some : 1 ≤ length row.locks
-  pub few : length row.locks ≤ 64
+  pub few : length row.locks ≤ MAX_SHARDS
   pub some_callers : 1 ≤ row.callers
-  pub few_callers : row.callers ≤ 64
+  pub few_callers : row.callers ≤ MAX_CALLERS
   pub same_callers : (k : ℕ) (l : LockModel) → slice_get row.locks k ≡ Some l → l.callers ≡ row.callers
 
 -- the passes of one caller: the row, the caller number, and for each lock the list of entries that the caller has seen

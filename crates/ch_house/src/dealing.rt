@@ -1,5 +1,6 @@
 //! How a row begins: each value goes into a lock, and each caller is dealt a pass of each lock.
 ghost use Rattle.std.specs.Prelude.{◌≡◌, ℕ, ◌<◌, ◌≤◌, [], length, map, All, slice_get, slice_index_or, None, Some, IsSome, IfOk};
+ghost use Rattle.ch_base.specs.declared.limits.TheConstants.{MAX_CALLERS};
 ghost use Rattle.ch_turn.specs.PassModels.{LockModel, PassModel, PassListModel, IsPassOf};
 ghost use Rattle.ch_house.specs.Rows.{fresh_passes};
 ghost use Rattle.ch_house.specs.Columns.{IsFresh, without_pass};
@@ -18,7 +19,7 @@ pub(crate) fn lock_each<T: Served>(
     values: Vec<T>,
     callers: u64,
 ) -> Result<(Vec<TurnLock<T>>, Vec<PassList<T>>), Memory>
-    requires callers { (1 ≤ callers) × (callers ≤ 64) }
+    requires callers { (1 ≤ callers) × (callers ≤ MAX_CALLERS) }
     requires empty { All (λ v. T.stands v []) values.items }
     ensures places { IfOk result (λ made. map (λ l. l.place) made.0.items ≡ map T.place values.items) }
     ensures callers { IfOk result (λ made. (k : ℕ) (l : LockModel) → slice_get made.0.items k ≡ Some l

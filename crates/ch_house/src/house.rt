@@ -2,6 +2,7 @@
 ghost use Rattle.std.specs.Prelude.{◌≡◌, ◌<◌, ◌≤◌, ℕ, length, slice_get, slice_index_or, slice_set, None, Some, IfOk, IsOk};
 ghost use Rattle.ch_base.specs.Growth.{GrowsBy};
 ghost use Rattle.ch_base.specs.declared.channel.ChanCall.TheVariants as chan_call;
+ghost use Rattle.ch_base.specs.declared.limits.TheConstants.{MAX_CALLERS};
 ghost use Rattle.ch_base.specs.declared.user.UserCall.TheVariants as user_call;
 ghost use Rattle.ch_config.specs.declared.limits.TheConstants.{MAX_SHARDS};
 ghost use Rattle.ch_history.specs.WellFormed.{IsWellFormed};
@@ -44,8 +45,7 @@ impl House {
     ghost use Rattle.ch_house.specs.Houses.{chan_count, user_count, seen, seen_user, fresh_passes, IsWhole};
     ghost use Rattle.ch_house.specs.Closes.{ChanClosed, UserClosed};
 
-    /// A house with so many shards of each kind, on which no call was made, and passes for so many callers: 1 to 64 of
-    /// each.
+    /// A house with so many shards of each kind, on which no call was made, and passes for so many callers.
     pub fn new(
         alloc: Global,
         chans: u64,
@@ -54,7 +54,7 @@ impl House {
     ) -> Result<(House, PassesList), Memory>
         requires chans { (1 ≤ chans) × (chans ≤ MAX_SHARDS) }
         requires users { (1 ≤ users) × (users ≤ MAX_SHARDS) }
-        requires callers { (1 ≤ callers) × (callers ≤ 64) }
+        requires callers { (1 ≤ callers) × (callers ≤ MAX_CALLERS) }
         ensures chans { IfOk result (λ made. chan_count made.0 ≡ chans) }
         ensures users { IfOk result (λ made. user_count made.0 ≡ users) }
         ensures callers { IfOk result (λ made. made.0.chans.callers ≡ callers) }

@@ -1,9 +1,12 @@
 //! A row of locks.
-ghost use Rattle.std.specs.Prelude.{◌≡◌, ℕ, ◌^◌, ◌<◌, ◌≤◌, [], length, map, All, slice_get, slice_index_or, None, Some, IfOk, IsOk};
+ghost use Rattle.std.specs.Prelude.{◌≡◌, ℕ, ◌<◌, ◌≤◌, [], length, map, All, slice_get, slice_index_or, None, Some, IfOk, IsOk};
 ghost use Rattle.ch_base.specs.Growth.{GrowsBy};
+ghost use Rattle.ch_base.specs.declared.limits.TheConstants.{MAX_CALLERS};
+ghost use Rattle.ch_config.specs.declared.limits.TheConstants.{MAX_SHARDS};
 ghost use Rattle.ch_turn.specs.Callers.{CallersBelow};
 ghost use Rattle.ch_turn.specs.declared.closing.Closed.{Closed as closed};
 ghost use Rattle.ch_house.specs.Rows.{places, place_of, seen, calls_on, fresh_passes, after_call, IsWhole, HasRowHistory};
+ghost use Rattle.ch_turn.specs.declared.limits.TheConstants.{MOST_CALLS};
 
 use crate::closing::close_each;
 use crate::dealing::{deal, lock_each};
@@ -39,15 +42,15 @@ impl<T: Served> Model for Locks<T> {
 }
 
 impl<T: Served> Locks<T> {
-    /// A lock round each of the 1 to 64 values, none of which has served a call, with passes for each of the 1 to 64
-    /// callers.
+    /// A lock round each of the 1 to [`MAX_SHARDS`](ch_config::MAX_SHARDS) values, none of which has served a call, with
+    /// passes for each of the 1 to [`MAX_CALLERS`](ch_base::MAX_CALLERS) callers.
     pub fn new(
         alloc: Global,
         values: ValueList<T>,
         callers: u64,
     ) -> Result<(Locks<T>, RowPassesList<T>), Memory>
-        requires values { (1 ≤ length values) × (length values ≤ 64) }
-        requires callers { (1 ≤ callers) × (callers ≤ 64) }
+        requires values { (1 ≤ length values) × (length values ≤ MAX_SHARDS) }
+        requires callers { (1 ≤ callers) × (callers ≤ MAX_CALLERS) }
         requires empty { All (λ v. T.stands v []) values }
         ensures locks { IfOk result (λ made. length made.0.locks ≡ length values) }
         ensures places { IfOk result (λ made. places made.0 ≡ map T.place values) }
@@ -66,7 +69,7 @@ impl<T: Served> Locks<T> {
     /// Serves the call on the value in lock k when its turn comes. What the caller has seen of that lock grows by the
     /// call; what it has seen of the others stays.
     ///
-    /// It may wait for ever. A caller makes at most 2^56 calls on one lock, and its next one does not return.
+    /// It may wait for ever. A caller makes at most [`MOST_CALLS`](ch_turn::MOST_CALLS) calls on one lock, and its next one does not return.
     pub fn call<R: Wait>(
         &self,
         rt: &R,
@@ -82,7 +85,7 @@ impl<T: Served> Locks<T> {
         ensures known_callers { CallersBelow self.now.callers (seen passes.new k) }
         ensures sure { T.sure call.now → IsOk result }
         ensures same { passes.new ≡ after_call passes.old k (seen passes.new k) }
-        ensures most { calls_on passes.new k ≤ 2 ^ 56 }
+        ensures most { calls_on passes.new k ≤ MOST_CALLS }
     {
         let lock = &self.locks[k as usize];
         let pass = &mut passes.passes[k as usize];

@@ -1,5 +1,6 @@
 //! What a caller calls a house with.
 ghost use Rattle.std.specs.Prelude.{◌≡◌, ◌<◌, ◌≤◌, ℕ, length};
+ghost use Rattle.ch_base.specs.declared.limits.TheConstants.{MAX_CALLERS};
 ghost use Rattle.ch_config.specs.declared.limits.TheConstants.{MAX_SHARDS};
 ghost use Rattle.ch_history.specs.Placement.{IsLegalAt, IsUserLegalAt};
 ghost use Rattle.ch_turn.specs.Callers.{CallersBelow};
@@ -34,7 +35,7 @@ impl Passes {
     /// The caller number.
     pub fn caller(&self) -> u64
         ensures caller { result ≡ self.now.caller }
-        ensures below { (result < self.now.house.chans.callers) × (result < 64) }
+        ensures below { (result < self.now.house.chans.callers) × (result < MAX_CALLERS) }
     {
         self.chans.caller()
     }

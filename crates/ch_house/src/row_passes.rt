@@ -1,5 +1,6 @@
 //! What a caller calls a row of locks with.
 ghost use Rattle.std.specs.Prelude.{◌≡◌, ◌<◌, ℕ, length, slice_get, Some};
+ghost use Rattle.ch_base.specs.declared.limits.TheConstants.{MAX_CALLERS};
 ghost use Rattle.ch_turn.specs.Callers.{CallersBelow};
 ghost use Rattle.ch_turn.specs.PassModels.{PassModel};
 ghost use Rattle.ch_house.specs.Rows.{place_of, seen};
@@ -41,7 +42,7 @@ impl<T: Served> RowPasses<T> {
     /// The caller number. Whatever the caller has seen of a lock is legal at its place, and is of the row's callers.
     pub fn caller(&self) -> u64
         ensures caller { result ≡ self.now.caller }
-        ensures below { (result < self.now.row.callers) × (result < 64) }
+        ensures below { (result < self.now.row.callers) × (result < MAX_CALLERS) }
         ensures legal { (k : ℕ) → k < length self.now.row.locks
             → T.legal (place_of self.now.row k) (seen self.now k) }
         ensures known_callers { (k : ℕ) → k < length self.now.row.locks

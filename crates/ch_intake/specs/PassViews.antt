@@ -1,5 +1,6 @@
 -- What a pass knows, and how its calls change that.
 use Rattle.std.specs.Prelude.{◌≡◌, ℕ, ◌+◌, ◌<◌, ◌≤◌, List, []}
+use Rattle.ch_base.specs.declared.limits.TheConstants.{MAX_CALLERS}
 use Rattle.crossbeam_queue.specs.Passes.{Pass, view}
 use Rattle.ch_intake.specs.declared.step.Step.{Step}
 use Rattle.ch_intake.specs.declared.step.Step.TheVariants.{Push, Pop}
@@ -12,7 +13,7 @@ module _ {C : Type 0} where
 
   -- it has all caller numbers, and has seen nothing
   abbrev pub first_view : Known C
-  first_view = known 0 64 []
+  first_view = known 0 MAX_CALLERS []
 
   -- the lowest number is given away
   abbrev pub after_dealing : Known C → Known C
@@ -47,4 +48,4 @@ module _ {C : Type 0} where
   -- the pass of one caller: no slot is out with it, and what it has seen is legal
   abbrev pub IsCallersPass : Pass C (Known C) → ℕ → Type 0
   IsCallersPass p caller =
-      (p.me.1 ≡ []) × (caller < 64) × (view p ≡ known caller (caller + 1) (steps_seen p)) × IsLegal (steps_seen p)
+      (p.me.1 ≡ []) × (caller < MAX_CALLERS) × (view p ≡ known caller (caller + 1) (steps_seen p)) × IsLegal (steps_seen p)

@@ -1,5 +1,6 @@
 //! How the passes of an intake are dealt out.
 ghost use Rattle.std.specs.Prelude.{◌≡◌, ℕ, ◌<◌, ◌≤◌, [], length, slice_index_or, None, Some, vec_capacity};
+ghost use Rattle.ch_base.specs.declared.limits.TheConstants.{MAX_CALLERS};
 ghost use Rattle.crossbeam_queue.specs.Passes.{view, IsPassOf};
 ghost use Rattle.ch_intake.specs.PassModels.{fresh_pass};
 ghost use Rattle.ch_intake.specs.PassViews.{first_view};
@@ -17,7 +18,7 @@ pub(crate) fn deal_passes<C: Drop>(
     requires own { IsPassOf queue.now dealer }
     requires dealer { view dealer ≡ first_view }
     requires room { (passes.items ≡ []) × (callers ≤ vec_capacity passes) }
-    requires callers { callers ≤ 64 }
+    requires callers { callers ≤ MAX_CALLERS }
     ensures count { length result.items ≡ callers }
     ensures each { (i : ℕ) → i < callers
         → slice_index_or result.items i None ≡ Some (fresh_pass dealer.table_id i) }

@@ -1,5 +1,6 @@
 //! The intake.
 ghost use Rattle.std.specs.Prelude.{◌≡◌, ℕ, ◌<◌, ◌≤◌, length, slice_index_or, None, Some, IfOk, IfErr, OnOk, IfSome, IfNone};
+ghost use Rattle.ch_base.specs.declared.limits.TheConstants.{MAX_CALLERS};
 ghost use Rattle.ch_intake.specs.declared.limits.TheConstants.{PLACES};
 ghost use Rattle.ch_intake.specs.Orders.{IsLegal, GrowsBy, HeldOnce};
 ghost use Rattle.ch_intake.specs.PassModels.{fresh_pass};
@@ -43,9 +44,10 @@ impl<C: Drop> Model for Intake<C> {
 }
 
 impl<C: Drop> Intake<C> {
-    /// An empty queue of [`PLACES`] places, with a pass for each of the 1 to 64 callers.
+    /// An empty queue of [`PLACES`] places, with a pass for each of the 1 to
+    /// [`MAX_CALLERS`](ch_base::MAX_CALLERS) callers.
     pub fn new(alloc: Global, callers: u64) -> Result<(Intake<C>, IntakePasses<C>), Memory>
-        requires callers { (1 ≤ callers) × (callers ≤ 64) }
+        requires callers { (1 ≤ callers) × (callers ≤ MAX_CALLERS) }
         ensures own { IfOk result (λ made. made.1.intake ≡ made.0) }
         ensures count { IfOk result (λ made. length made.1.slots ≡ callers) }
         ensures passes { IfOk result (λ made. (i : ℕ) → i < callers

@@ -1,5 +1,6 @@
 //! What a caller pushes and pops with.
 ghost use Rattle.std.specs.Prelude.{◌≡◌, ◌<◌};
+ghost use Rattle.ch_base.specs.declared.limits.TheConstants.{MAX_CALLERS};
 ghost use Rattle.ch_intake.specs.Orders.{IsLegal};
 
 use crate::rule::QueuePass;
@@ -33,7 +34,7 @@ impl<C: Drop> IntakePass<C> {
     /// The caller number. What a pass has seen is legal.
     pub fn caller(&self) -> u64
         ensures caller { result ≡ self.now.caller }
-        ensures below { result < 64 }
+        ensures below { result < MAX_CALLERS }
         ensures legal { IsLegal self.now.seen }
     {
         self.caller

@@ -1,19 +1,20 @@
 ghost use Rattle.std.specs.Prelude.{◌≡◌, ℕ, ◌<◌, ◌≤◌, ◌++◌, All, slice_index_or, OnOk};
+ghost use Rattle.ch_base.specs.declared.limits.TheConstants.{MAX_CALLERS};
 ghost use Rattle.ch_history.specs.Deliveries.{for_owner};
 ghost use Rattle.ch_outbox.specs.Outbox.{frames_of, spare_of};
 ghost use Rattle.ch_outbox.specs.Room.{count_for, HasRoom};
 
 use crate::outbox::Outbox;
-use ch_base::Memory;
+use ch_base::{MAX_CALLERS, Memory};
 use ch_history::Delivery;
 
 /// Owners have numbers below this.
-const OWNERS: usize = 64;
+const OWNERS: usize = MAX_CALLERS as usize;
 
 impl Outbox {
     /// Makes room for the frames of each owner. No list changes, also where there is no memory.
     pub fn reserve_for(&mut self, made: &[Delivery]) -> Result<(), Memory>
-        requires { All (λ d. d.owner < 64) made.now }
+        requires { All (λ d. d.owner < MAX_CALLERS) made.now }
         ensures frames { (w : ℕ) → frames_of self.new w ≡ frames_of self.old w }
         ensures room { OnOk result (HasRoom self.new made.now) }
     {
@@ -26,7 +27,7 @@ impl Outbox {
 
     /// Makes room for n more frames of the owner, where there are any.
     fn reserve_some(&mut self, owner: u64, n: u64) -> Result<(), Memory>
-        requires { owner < 64 }
+        requires { owner < MAX_CALLERS }
         ensures frames { (w : ℕ) → frames_of self.new w ≡ frames_of self.old w }
         ensures spare { (w : ℕ) → spare_of self.old w ≤ spare_of self.new w }
         ensures room { OnOk result (n ≤ spare_of self.new owner) }
@@ -39,7 +40,7 @@ impl Outbox {
 
     /// Moves each frame to the end of its owner's frames. It takes no memory.
     pub fn deliver(&mut self, mut made: Vec<Delivery>)
-        requires owners { All (λ d. d.owner < 64) made.items }
+        requires owners { All (λ d. d.owner < MAX_CALLERS) made.items }
         requires room { HasRoom self.old made.items }
         ensures { (w : ℕ) → frames_of self.new w ≡ frames_of self.old w ++ for_owner w made.items }
     {
@@ -53,8 +54,8 @@ impl Outbox {
 
 /// How many of the frames each owner hands over.
 fn owner_counts(made: &[Delivery]) -> [u64; OWNERS]
-    requires { All (λ d. d.owner < 64) made.now }
-    ensures { (w : ℕ) → w < 64 → slice_index_or result w 0 ≡ count_for w made.now }
+    requires { All (λ d. d.owner < MAX_CALLERS) made.now }
+    ensures { (w : ℕ) → w < MAX_CALLERS → slice_index_or result w 0 ≡ count_for w made.now }
 {
     let mut counts = [0; OWNERS];
     for delivery in made {

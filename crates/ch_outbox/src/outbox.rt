@@ -5,7 +5,7 @@ use ch_base::{FrameList, Memory, Shared};
 use std::alloc::Global;
 use std::marker::Model;
 
-/// The frames that wait for each owner, a number below 64.
+/// The frames that wait for each owner, a number below `MAX_CALLERS`.
 #[derive(Drop)]
 pub struct Outbox {
     alloc: Global,
@@ -37,7 +37,7 @@ impl Outbox {
     /// Makes room for n more frames of the owner. No list changes and no spare room falls, also where
     /// there is no memory.
     pub fn reserve(&mut self, owner: u64, n: u64) -> Result<(), Memory>
-        requires { owner < 64 }
+        requires { owner < MAX_CALLERS }
         ensures frames { (w : ℕ) → frames_of self.new w ≡ frames_of self.old w }
         ensures spare { (w : ℕ) → spare_of self.old w ≤ spare_of self.new w }
         ensures room { OnOk result (n ≤ spare_of self.new owner) }
@@ -49,7 +49,7 @@ impl Outbox {
 
     /// Adds a frame at the end of the owner's. It takes no memory.
     pub fn put(&mut self, owner: u64, item: Shared)
-        requires owner { owner < 64 }
+        requires owner { owner < MAX_CALLERS }
         requires room { 0 < spare_of self.old owner }
         ensures { Puts self.old self.new owner item }
     {
@@ -58,7 +58,7 @@ impl Outbox {
 
     /// Takes all frames of the owner out, the oldest first. It takes no memory.
     pub fn take_all(&mut self, owner: u64) -> FrameList
-        requires { owner < 64 }
+        requires { owner < MAX_CALLERS }
         ensures taken { result ≡ frames_of self.old owner }
         ensures emptied { frames_of self.new owner ≡ [] }
         ensures others { (w : ℕ) → w ≢ owner → row_of self.new w ≡ row_of self.old w }
@@ -70,6 +70,7 @@ impl Outbox {
     }
 }
 
+ghost use Rattle.ch_base.specs.declared.limits.TheConstants.{MAX_CALLERS};
 ghost use Rattle.ch_outbox.specs.Outbox.{frames_of, spare_of};
 
 /// Adds empty queues until the owner has one.

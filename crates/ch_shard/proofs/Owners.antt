@@ -4,6 +4,7 @@ use Rattle.std.proofs.lemmas.List.Elements.{All-nil, All-cons, All-append, All-f
 use Rattle.ch_base.specs.declared.channel.Member.{Member}
 use Rattle.ch_base.specs.declared.frame.Frame.{Frame}
 use Rattle.ch_base.specs.declared.frame.Frame.TheVariants.{Succeeded, Present, Added, Removed}
+use Rattle.ch_base.specs.declared.limits.TheConstants.{MAX_CALLERS}
 use Rattle.ch_history.specs.declared.rows.Subscription.{Subscription}
 use Rattle.ch_history.specs.declared.rows.Delivery.{Delivery}
 use Rattle.ch_history.specs.Subscriptions.{on_channel, channels_in}
@@ -16,7 +17,7 @@ use Rattle.ch_shard.specs.Parting.{others, leave_frames}
 
 -- an owner is a caller's number
 abbrev pub OwnsSub : Subscription → Type 0
-OwnsSub s = s.owner < 64
+OwnsSub s = s.owner < MAX_CALLERS
 
 pub on_channel_owned : (xs : List Subscription) (c : List ℕ) → All OwnsSub xs → All OwnsSub (on_channel xs c)
 on_channel_owned xs c all = All-filter (λ s. bytes_eq s.channel c) OwnsSub xs all
@@ -57,7 +58,7 @@ arrival_owned c before (Some m) all =
     ]
 
 -- the frames of a newcomer
-pub join_owned : (old : Parts) (now : ℕ) (n : Subscription) → All OwnsSub old.subs → n.owner < 64 → All OwnsFrame (join_frames old now n)
+pub join_owned : (old : Parts) (now : ℕ) (n : Subscription) → All OwnsSub old.subs → n.owner < MAX_CALLERS → All OwnsFrame (join_frames old now n)
 join_owned old now n all below =
     let c : List ℕ = n.channel in
     let after : List Subscription = on_channel (old.subs ++ n ∷ []) c in

@@ -5,6 +5,7 @@ use Rattle.ch_base.specs.Growth.{entry}
 use Rattle.ch_base.specs.declared.channel.CacheRow.{CacheRow}
 use Rattle.ch_base.specs.declared.channel.ChanCall.{ChanCall}
 use Rattle.ch_base.specs.declared.channel.ChanAnswer.{ChanAnswer}
+use Rattle.ch_base.specs.declared.limits.TheConstants.{MAX_CALLERS}
 use Rattle.ch_base.specs.declared.memory.Memory.{Memory}
 use Rattle.ch_history.specs.Entries.{ChanEntry, ChanHistory}
 use Rattle.ch_history.specs.Subscriptions.{subscriptions, subs_after}
@@ -30,7 +31,7 @@ use Rattle.ch_shard.proofs.Occurring.{not_due-all, log-unchanged, held-unchanged
 
 -- Holding
 
-moves_on : (old mid new : Parts) (h : ChanHistory) (e : ChanEntry) → e.caller < 64 → IsWellFormed e.call → Holds old h
+moves_on : (old mid new : Parts) (h : ChanHistory) (e : ChanEntry) → e.caller < MAX_CALLERS → IsWellFormed e.call → Holds old h
     → Moves old mid (clock_with (clock h) e.call) e → Released mid new (clock_with (clock h) e.call) → Holds new (h ++ e ∷ [])
 moves_on old mid new h e below formed stands moves released =
     let now : ℕ = clock_with (clock h) e.call in
@@ -73,7 +74,7 @@ moves_on old mid new h e below formed stands moves released =
     }
 
 -- a call that is answered moves the shard, and then what is due is released
-pub Holds-moves : (old mid new : Parts) (h : ChanHistory) (now : ℕ) (e : ChanEntry) → e.caller < 64 → IsWellFormed e.call → now ≡ clock_with (clock h) e.call → Holds old h
+pub Holds-moves : (old mid new : Parts) (h : ChanHistory) (now : ℕ) (e : ChanEntry) → e.caller < MAX_CALLERS → IsWellFormed e.call → now ≡ clock_with (clock h) e.call → Holds old h
     → Moves old mid now e → Released mid new now → Holds new (h ++ e ∷ [])
 Holds-moves old mid new h now e below formed clocked stands moves released =
     moves_on old mid new h e below formed stands (subst (λ t. Moves old mid t e) clocked moves) (subst (λ t. Released mid new t) clocked released)

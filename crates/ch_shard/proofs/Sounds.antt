@@ -3,6 +3,7 @@ use Rattle.std.proofs.Common.{◌≡◌, ℕ, ◌<◌, ◌==◌, ◌&&◌, ◌||
 use Rattle.std.specs.List.{list_any, cons_option}
 use Rattle.std.proofs.lemmas.List.Elements.{All-head, All-tail, All-filter, All-push}
 use Rattle.ch_base.specs.declared.channel.Member.{Member}
+use Rattle.ch_base.specs.declared.limits.TheConstants.{MAX_CALLERS}
 use Rattle.ch_history.specs.declared.rows.Subscription.{Subscription}
 use Rattle.ch_history.specs.ChannelName.{is_presence}
 use Rattle.ch_history.specs.Texts.{ascending, has_text}
@@ -42,7 +43,7 @@ IsSound-lost xs rows socket sound =
       present = ap (λ rs. row.without_all rs socket) sound.present ∙ sym ((same_changes xs).lost socket);
     }
 
-pub IsSound-join : (xs : List Subscription) (rows : List Present) (n : Subscription) → n.owner < 64 → HasMember n → AreSoundRows xs rows → AreSoundRows (xs ++ n ∷ []) (with_newcomer rows (row_of n))
+pub IsSound-join : (xs : List Subscription) (rows : List Present) (n : Subscription) → n.owner < MAX_CALLERS → HasMember n → AreSoundRows xs rows → AreSoundRows (xs ++ n ∷ []) (with_newcomer rows (row_of n))
 IsSound-join xs rows n below fits sound = record {
   owners = All-push OwnsSub xs n sound.owners below;
   members = All-push HasMember xs n sound.members fits;

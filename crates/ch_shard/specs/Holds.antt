@@ -1,5 +1,6 @@
 -- Which histories the parts of a shard hold the outcome of.
 use Rattle.std.specs.Prelude.{◌≡◌, ℕ, ◌<◌, ◌≤◌, List}
+use Rattle.ch_base.specs.declared.limits.TheConstants.{MAX_CALLERS}
 use Rattle.ch_history.specs.Entries.{ChanHistory}
 use Rattle.ch_history.specs.Subscriptions.{subscriptions}
 use Rattle.ch_history.specs.Clock.{clock}
@@ -17,6 +18,6 @@ pub record Holds (parts : Parts) (h : ChanHistory) : Type 0 where
   pub legal : IsLegal h
   pub subs : parts.subs ≡ subscriptions h
   pub latest : (c : List ℕ) (at : ℕ) → clock h ≤ at → latest_in parts.cache c at ≡ latest_at h c at
-  pub frames : (w : ℕ) → w < 64 → frames_of parts.outbox w ≡ waiting h w
+  pub frames : (w : ℕ) → w < MAX_CALLERS → frames_of parts.outbox w ≡ waiting h w
   pub log : parts.log ≡ since_take h
   pub held : parts.held ≡ held h

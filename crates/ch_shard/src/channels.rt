@@ -1,5 +1,6 @@
 ghost use Rattle.std.specs.Prelude.{◌≡◌, ◌≢◌, ◌<◌, ◌≤◌, [], ◌∷◌, ◌++◌, length, IsOk, IfOk, MatchResult};
 ghost use Rattle.ch_base.specs.Growth.{entry};
+ghost use Rattle.ch_base.specs.declared.limits.TheConstants.{MAX_CALLERS};
 
 use ch_base::{ChanAnswer, ChanCall, Memory};
 use ch_cache::Cache;
@@ -79,7 +80,7 @@ impl Channels {
     /// Whatever the call, the notices that are due by then are released with it. A `Take` carries no moment, so that
     /// none is due, and takes no memory.
     pub fn serve(&mut self, caller: u64, call: &ChanCall, now: u64) -> Result<ChanAnswer, Memory>
-        requires caller { caller < 64 }
+        requires caller { caller < MAX_CALLERS }
         requires formed { IsWellFormed call.now }
         requires moment { IsMoment now }
         ensures stands { (h : ChanHistory) → now ≡ clock_with (clock h) call.now → Holds self.old h → MatchResult result
@@ -102,7 +103,7 @@ impl Channels {
     /// Answers a call other than `Take`, and changes what it changes; the notices that are due afterwards are still to be released.
     /// After want of memory everything is as it was.
     fn answer(&mut self, caller: u64, call: &ChanCall, now: u64) -> Result<ChanAnswer, Memory>
-        requires caller { caller < 64 }
+        requires caller { caller < MAX_CALLERS }
         requires formed { IsWellFormed call.now }
         requires moment { IsMoment now }
         requires other { call.now ≢ ChanCall.Take }

@@ -1,4 +1,5 @@
 ghost use Rattle.std.specs.Prelude.{◌≡◌, ℕ, ◌+◌, ◌<◌, ◌≤◌, [], ◌++◌, All, OnOk, length, vec_len};
+ghost use Rattle.ch_base.specs.declared.limits.TheConstants.{MAX_CALLERS};
 ghost use Rattle.ch_history.specs.Deliveries.{for_owner};
 ghost use Rattle.ch_history.specs.Held.{due, held_after, hooks_after};
 ghost use Rattle.ch_hooklog.specs.HookLog.{IsOfOneCall};
@@ -39,7 +40,7 @@ pub fn make_room(
     made: &Effects,
     now: u64,
 ) -> Result<(), Memory>
-    requires { All (λ d. d.owner < 64) made.now.frames.items }
+    requires { All (λ d. d.owner < MAX_CALLERS) made.now.frames.items }
     ensures frames { (w : ℕ) → frames_of outbox.new w ≡ frames_of outbox.old w }
     ensures hooks { log.new.hooks ≡ log.old.hooks }
     ensures held { log.new.held ≡ log.old.held }
@@ -54,7 +55,7 @@ pub fn make_room(
 /// Adds the frames at the end of their owners' ones, and makes the webhook events at this moment, in milliseconds. It
 /// takes no memory.
 pub fn hand_over(outbox: &mut Outbox, log: &mut HookLog, made: Effects, now: u64)
-    requires owners { All (λ d. d.owner < 64) made.frames.items }
+    requires owners { All (λ d. d.owner < MAX_CALLERS) made.frames.items }
     requires room_frames { HasRoom outbox.old made.frames.items }
     requires room_hooks { vec_len made.hooks + length (due now log.old.held) ≤ log.old.spare }
     requires call { IsOfOneCall made.hooks.items }

@@ -1,5 +1,6 @@
 ghost use Rattle.std.specs.Prelude.{◌≡◌, ◌<◌, ◌&&◌, not, length, nat_le, IfOk, MatchResult, OnOk, OnErr};
 ghost use Rattle.std.specs.Option.{option_copied};
+ghost use Rattle.ch_base.specs.declared.limits.TheConstants.{MAX_CALLERS};
 ghost use Rattle.ch_history.specs.Answers.{is_crowded};
 ghost use Rattle.ch_history.specs.ChannelName.{is_presence};
 ghost use Rattle.ch_history.specs.declared.limits.TheConstants.{MAX_USERS};
@@ -29,7 +30,7 @@ impl Channels {
         member: Option<&Member>,
         now: u64,
     ) -> Result<ChanAnswer, Memory>
-        requires caller { caller < 64 }
+        requires caller { caller < MAX_CALLERS }
         requires member { IsMemberOf (is_presence channel.now) (option_copied member) }
         ensures { MatchResult result (λ answer. JoinGives self.old self.new now (newcomer caller socket channel.now (option_copied member.entry)) answer) (λ _. IsUnchanged self.old self.new) }
     {

@@ -1,5 +1,6 @@
 ghost use Rattle.std.specs.Prelude.{◌≡◌, ◌<◌, ℕ, List, [], ◌∷◌, ◌++◌, length, slice_get, sum_by, IsOk, IfOk, IsTrue, Some, MatchResult};
 ghost use Rattle.ch_base.specs.Growth.{entry};
+ghost use Rattle.ch_base.specs.declared.limits.TheConstants.{MAX_CALLERS};
 ghost use Rattle.ch_history.specs.Subscriptions.{subscriptions, subs};
 ghost use Rattle.ch_shard.specs.Tail.{tail_of};
 ghost use Rattle.ch_subs.specs.Names.{names};
@@ -50,7 +51,7 @@ impl ChanShard {
         })
     }
 
-    /// Serves one call of a caller, who has a number below 64.
+    /// Serves one call of a caller, who has a number below `MAX_CALLERS`.
     ///
     /// After want of memory everything is as it was; a `Take` needs none. A call whose moment is below that of an earlier
     /// one is made at the greatest moment so far: that is the shard's clock. With each call the vacated notices that are
@@ -61,7 +62,7 @@ impl ChanShard {
     /// `member_added` and `member_removed` of each user of a presence channel alternate and end at whether the user is
     /// there, and a newcomer of a cache channel is sent exactly one of the latest event and a cache miss.
     pub fn apply(&mut self, caller: u64, call: &ChanCall) -> Result<ChanAnswer, Memory>
-        requires caller { caller < 64 }
+        requires caller { caller < MAX_CALLERS }
         requires formed { IsWellFormed call.now }
         ensures stands { (h : ChanHistory) → Stands self.old h → MatchResult result
             (λ answer. Stands self.new (h ++ entry caller call.now answer ∷ []))

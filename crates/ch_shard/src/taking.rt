@@ -1,4 +1,5 @@
 ghost use Rattle.std.specs.Prelude.{◌<◌, ◌≤◌, length};
+ghost use Rattle.ch_base.specs.declared.limits.TheConstants.{MAX_CALLERS};
 ghost use Rattle.ch_history.specs.Held.{due};
 ghost use Rattle.ch_shard.specs.Parts.{TakeGives, TakeHooksGives};
 
@@ -7,7 +8,7 @@ use ch_base::ChanAnswer;
 
 impl Channels {
     pub(crate) fn take(&mut self, caller: u64) -> ChanAnswer
-        requires { caller < 64 }
+        requires { caller < MAX_CALLERS }
         ensures { TakeGives self.old self.new caller result }
     {
         ChanAnswer::Frames(self.outbox.take_all(caller))

@@ -12,6 +12,7 @@ use Rattle.atomic_table.proofs.Lists.{set_here, set_again}
 use Rattle.std.specs.declared.snapshot.Snapshot.{Snapshot}
 use Rattle.ch_base.specs.declared.entry.Entry.{Entry}
 use Rattle.ch_base.specs.Growth.{entry}
+use Rattle.ch_turn.specs.declared.limits.TheConstants.{MOST_CALLS}
 use Rattle.ch_turn.specs.declared.table.View.{View}
 use Rattle.ch_turn.specs.declared.table.Stage.{Stage}
 use Rattle.ch_turn.specs.declared.table.Stage.TheVariants.{Idle, Waits, Holds, Recorded}
@@ -73,10 +74,10 @@ module _ {T C A : Type 0} (place_of : T → ℕ × ℕ) (legal : ℕ × ℕ → 
   -- few tickets are drawn
   ticket_small : (s : St) (r : Rule s) → r.ticket ≤ 2 ^ 62
   ticket_small s r = let h = total_le s.views (λ i v e. (r.each_seat i v e).few_calls) in let a = r.all_calls in let b = r.all_callers in let c = r.order.2 in
-      let m : r.ticket ≤ callers * 2 ^ 56 = subst (λ (z : ℕ × ℕ). z.0 ≤ z.1 * 2 ^ 56) (λ i. (a i, b i)) h in omega arith
+      let m : r.ticket ≤ callers * MOST_CALLS = subst (λ (z : ℕ × ℕ). z.0 ≤ z.1 * MOST_CALLS) (λ i. (a i, b i)) h in omega arith
 
   -- a seat between two calls draws the next ticket
-  pub draw_keeps : (slots id : ℕ) (me : M) → Rests me → me.0.calls < 2 ^ 56 → Allows Rule slots id me 0 (λ n. (n + 1) % 2 ^ 64) (Draws (step slots 0 1 0 none) me)
+  pub draw_keeps : (slots id : ℕ) (me : M) → Rests me → me.0.calls < MOST_CALLS → Allows Rule slots id me 0 (λ n. (n + 1) % 2 ^ 64) (Draws (step slots 0 1 0 none) me)
   draw_keeps slots id me rests few s r _ at _ =
       let one = rests.one_caller in
       let f = r.each_seat id me.0 at in

@@ -6,6 +6,7 @@ use lib.ListN.{get_elem?}
 use Rattle.atomic_table.specs.Table.{State, Final, Seen, opening}
 use Rattle.ch_base.specs.declared.entry.Entry.{Entry}
 use Rattle.ch_base.specs.Growth.{NotBy}
+use Rattle.ch_base.specs.declared.limits.TheConstants.{MAX_CALLERS}
 use Rattle.ch_turn.specs.declared.table.View.{View}
 use Rattle.ch_turn.specs.declared.table.Stage.TheVariants.{Idle}
 use Rattle.ch_turn.specs.declared.table.Slot.{Slot}
@@ -19,7 +20,7 @@ use Rattle.ch_turn.proofs.RuleParts.{turn_facts}
 
 module _ {T C A : Type 0} (place_of : T → ℕ × ℕ) (legal : ℕ × ℕ → List (Entry C A) → Type 0) (stands : T → List (Entry C A) → Type 0) where
   -- a new table, with a value at home that stands for the empty history
-  pub opening_keeps : (callers : ℕ) (value : T) → callers ≤ 64 → legal (place_of value) [] → stands value []
+  pub opening_keeps : (callers : ℕ) (value : T) → callers ≤ MAX_CALLERS → legal (place_of value) [] → stands value []
       → Kept place_of legal stands (place_of value) callers (opening (0 ∷ 0 ∷ 0 ∷ []) (Value value ∷ []) (first_view (place_of value) callers))
   opening_keeps callers value few lawful right = record {
     log = [];

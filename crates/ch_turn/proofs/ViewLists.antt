@@ -1,10 +1,11 @@
 -- Lists of views by seat, and sums over them.
-use Rattle.std.proofs.Common.{◌≡◌, ◌≢◌, ◌⊎◌, inl, inr, ⊎_elim, ℕ, zero, suc, ◌+◌, ◌-◌, ◌*◌, ◌^◌, ◌<◌, ◌≤◌, List, [], ◌∷◌, ◌++◌, length, set, sym, refl, ap, ◌∙◌, subst, arith}
+use Rattle.std.proofs.Common.{◌≡◌, ◌≢◌, ◌⊎◌, inl, inr, ⊎_elim, ℕ, zero, suc, ◌+◌, ◌-◌, ◌*◌, ◌<◌, ◌≤◌, List, [], ◌∷◌, ◌++◌, length, set, sym, refl, ap, ◌∙◌, subst, arith}
 use mathlib.Core.Logic.{dite}
 use mathlib.Core.Option.{some, some-injective, some-ne-none}
 use native.Mathlib.Decide.{ℕ_discrete}
 use lib.ListN.{get_elem?}
 use Rattle.atomic_table.proofs.Lists.{at_set, set_here, set_else, at_longer}
+use Rattle.ch_turn.specs.declared.limits.TheConstants.{MOST_CALLS}
 use Rattle.ch_turn.specs.declared.table.View.{View}
 use Rattle.ch_turn.specs.Views.{total, calls_of, callers_of}
 
@@ -50,6 +51,6 @@ module _ {C A : Type 0} where
   total-push f (x ∷ xs) v = let h = total-push f xs v in omega arith
 
   -- where each view has made few calls for its callers, all have
-  pub total_le : (vs : List (View C A)) → ((i : ℕ) (v : View C A) → get_elem? vs i ≡ some v → v.calls ≤ (v.high - v.low) * 2 ^ 56) → total calls_of vs ≤ total callers_of vs * 2 ^ 56
+  pub total_le : (vs : List (View C A)) → ((i : ℕ) (v : View C A) → get_elem? vs i ≡ some v → v.calls ≤ (v.high - v.low) * MOST_CALLS) → total calls_of vs ≤ total callers_of vs * MOST_CALLS
   total_le [] h = omega arith
   total_le (x ∷ xs) h = let a = h 0 x refl in let b = total_le xs (λ i v e. h (suc i) v e) in omega arith

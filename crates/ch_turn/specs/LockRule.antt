@@ -1,9 +1,11 @@
 -- The rule of a lock's table: what holds between any two steps, whichever threads make them.
-use Rattle.std.specs.Prelude.{◌≡◌, ℕ, zero, suc, ◌+◌, ◌-◌, ◌*◌, ◌^◌, ◌<◌, ◌≤◌, false, List, [], ◌∷◌, ◌++◌, length}
+use Rattle.std.specs.Prelude.{◌≡◌, ℕ, zero, suc, ◌+◌, ◌-◌, ◌*◌, ◌<◌, ◌≤◌, false, List, [], ◌∷◌, ◌++◌, length}
 use mathlib.Core.Option.{Option, none, some}
 use lib.ListN.{get_elem?}
 use Rattle.atomic_table.specs.Table.{State}
 use Rattle.ch_base.specs.Growth.{NotBy}
+use Rattle.ch_base.specs.declared.limits.TheConstants.{MAX_CALLERS}
+use Rattle.ch_turn.specs.declared.limits.TheConstants.{MOST_CALLS}
 use Rattle.ch_turn.specs.declared.table.View.{View}
 use Rattle.ch_turn.specs.declared.table.Stage.{Stage}
 use Rattle.ch_turn.specs.declared.table.Stage.TheVariants.{Idle, Waits, Holds, Recorded}
@@ -33,7 +35,7 @@ module _ {C A : Type 0} where
     pub range : (v.low ≤ v.told_from) × (v.told_from ≤ v.high) × (v.high ≤ callers)
     pub held : (i : ℕ) → v.low ≤ i → i < v.high
         → (holder i ≡ seat) × (i < v.told_from → NotBy i unseen) × (v.told_from ≤ i → NotBy i untold)
-    pub few_calls : v.calls ≤ (v.high - v.low) * 2 ^ 56
+    pub few_calls : v.calls ≤ (v.high - v.low) * MOST_CALLS
     pub staged : StageFits unseen serving phase ticket v.stage
     -- a seat with a ticket is that of one caller, and has nothing to merge
     pub owned : (t : ℕ) → HasTicket t v.stage
@@ -57,7 +59,7 @@ module _ {T C A : Type 0} (place_of : T → ℕ × ℕ) (legal : ℕ × ℕ → 
     pub owner : ℕ → ℕ
     pub holder : ℕ → ℕ
     pub words : s.words ≡ ticket ∷ serving ∷ length log ∷ []
-    pub order : (serving ≤ ticket) × (phase ≤ 2) × (callers ≤ 64)
+    pub order : (serving ≤ ticket) × (phase ≤ 2) × (callers ≤ MAX_CALLERS)
     -- each served ticket has one entry at most
     pub few_entries : length log ≤ serving + (phase - 1)
     pub is_legal : legal place log

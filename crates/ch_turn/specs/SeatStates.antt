@@ -1,5 +1,7 @@
 -- What a seat is between the steps of a call, and while a lock begins and ends.
-use Rattle.std.specs.Prelude.{◌≡◌, ℕ, ◌+◌, ◌^◌, ◌<◌, ◌≤◌, false, [], ◌∷◌}
+use Rattle.std.specs.Prelude.{◌≡◌, ℕ, ◌+◌, ◌<◌, ◌≤◌, false, [], ◌∷◌}
+use Rattle.ch_base.specs.declared.limits.TheConstants.{MAX_CALLERS}
+use Rattle.ch_turn.specs.declared.limits.TheConstants.{MOST_CALLS}
 use Rattle.ch_turn.specs.declared.table.View.{View}
 use Rattle.ch_turn.specs.declared.table.Stage.TheVariants.{Idle}
 use Rattle.ch_turn.specs.declared.table.Slot.{Slot}
@@ -22,9 +24,9 @@ module _ {T C A : Type 0} where
   pub record IsPassSeat (legal : ℕ × ℕ → History C A → Type 0) (m : SeatState T C A) (caller calls : ℕ) : Type 0 where
     pub rests : Rests m
     pub caller_is : m.0.low ≡ caller
-    pub caller_below : (caller < m.0.callers) × (m.0.callers ≤ 64)
+    pub caller_below : (caller < m.0.callers) × (m.0.callers ≤ MAX_CALLERS)
     pub calls_are : m.0.calls ≡ calls
-    pub most_calls : calls ≤ 2 ^ 56
+    pub most_calls : calls ≤ MOST_CALLS
     pub seen_legal : legal m.0.place m.0.seen
     pub seen_known : CallersBelow m.0.callers m.0.seen
 

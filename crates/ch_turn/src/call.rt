@@ -1,9 +1,11 @@
 //! One call, step by step: draw a ticket and wait, take the value, serve, enter the call in the history, put the value
 //! back, and let the next ticket in.
-ghost use Rattle.std.specs.Prelude.{◌≡◌, ℕ, ◌+◌, ◌^◌, ◌<◌, [], ◌∷◌, ◌++◌, IsOk};
+ghost use Rattle.std.specs.Prelude.{◌≡◌, ℕ, ◌+◌, ◌<◌, [], ◌∷◌, ◌++◌, IsOk};
 ghost use Rattle.ch_base.specs.Growth.{own, GrowsBy};
+ghost use Rattle.ch_base.specs.declared.limits.TheConstants.{MAX_CALLERS};
 ghost use Rattle.ch_turn.specs.Callers.{CallersBelow};
 ghost use Rattle.ch_turn.specs.SeatStates.{Enters, Rests, HasSlot};
+ghost use Rattle.ch_turn.specs.declared.limits.TheConstants.{MOST_CALLS};
 ghost use Rattle.ch_turn.specs.declared.table.Stage.TheVariants.{Idle, Holds};
 ghost use Rattle.ch_turn.specs.declared.table.Slot.TheVariants.{Taken};
 
@@ -19,7 +21,7 @@ use std::thread::yield_now;
 fn acquire<T: Served, R: Wait>(rt: &R, table: &SharedTable<T>, seat: &mut LockSeat<T>) -> T
     requires table { (seat.old.table_id ≡ table.now.table_id) × (table.now.table_id.words ≡ 3) }
     requires rests { Rests seat.old.me }
-    requires calls { seat.old.me.0.calls < 2 ^ 56 }
+    requires calls { seat.old.me.0.calls < MOST_CALLS }
     ensures table { (seat.new.table_id ≡ seat.old.table_id) × (seat.new.id ≡ seat.old.id) }
     ensures turn { Enters T.place T.legal T.stands seat.old.me result seat.new.me }
 {
@@ -88,8 +90,8 @@ pub(crate) fn serve_in_turn<T: Served, R: Wait>(
 ) -> Result<T::Answer, Memory>
     requires table { (seat.old.table_id ≡ table.now.table_id) × (table.now.table_id.words ≡ 3) }
     requires rests { Rests seat.old.me }
-    requires calls { seat.old.me.0.calls < 2 ^ 56 }
-    requires caller { (caller ≡ seat.old.me.0.low) × (caller < seat.old.me.0.callers) × (caller < 64) }
+    requires calls { seat.old.me.0.calls < MOST_CALLS }
+    requires caller { (caller ≡ seat.old.me.0.low) × (caller < seat.old.me.0.callers) × (caller < MAX_CALLERS) }
     requires fits { T.fits seat.old.me.0.place call.now }
     ensures table { (seat.new.table_id ≡ seat.old.table_id) × (seat.new.id ≡ seat.old.id) }
     ensures view { seat.new.me ≡ (

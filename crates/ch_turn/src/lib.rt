@@ -12,6 +12,7 @@
 
 mod call;
 mod closing;
+mod limits;
 mod lock;
 mod opening;
 mod pass;
@@ -24,6 +25,7 @@ mod tests;
 mod waiting;
 
 pub use closing::Closed;
+pub use limits::MOST_CALLS;
 pub use lock::TurnLock;
 pub use pass::Pass;
 pub use pass_list::PassList;

@@ -1,12 +1,15 @@
 //! The lock.
-ghost use Rattle.std.specs.Prelude.{◌≡◌, ◌⊎◌, ℕ, ◌+◌, ◌^◌, ◌<◌, ◌≤◌, [], length, slice_index_or, None, Some, IfOk, IsOk};
+ghost use Rattle.std.specs.Prelude.{◌≡◌, ◌⊎◌, ℕ, ◌+◌, ◌<◌, ◌≤◌, [], length, slice_index_or, None, Some, IfOk, IsOk};
 ghost use mathlib.Core.List.{IsPrefix};
 ghost use Rattle.ch_base.specs.Growth.{GrowsBy};
+ghost use Rattle.ch_base.specs.declared.limits.TheConstants.{MAX_CALLERS};
 ghost use Rattle.ch_turn.specs.Callers.{CallersBelow};
 ghost use Rattle.ch_turn.specs.PassModels.{fresh_pass, IsWhole, HasHistory};
+ghost use Rattle.ch_turn.specs.declared.limits.TheConstants.{MOST_CALLS};
 
 use crate::call::serve_in_turn;
 use crate::closing::{Closed, gather};
+use crate::limits::MOST_CALLS;
 use crate::opening::{deal_passes, lay_table};
 use crate::pass::Pass;
 use crate::pass_list::PassList;
@@ -17,9 +20,6 @@ use std::alloc::Global;
 use std::marker::Model;
 use std::snapshot::Snapshot;
 use std::sync::Wait;
-
-/// How many calls a pass makes. With 64 callers at most, the ticket word stays below 2^62 and so never wraps.
-const MOST_CALLS: u64 = 1 << 56;
 
 /// A value whose calls are served in the order of their tickets. Contracts see the table, the number of callers and
 /// the place of the value.
@@ -46,9 +46,10 @@ impl<T: Served> Model for TurnLock<T> {
 }
 
 impl<T: Served> TurnLock<T> {
-    /// A lock round a value that has served no call, with a pass for each of the 1 to 64 callers.
+    /// A lock round a value that has served no call, with a pass for each of the 1 to
+    /// [`MAX_CALLERS`](ch_base::MAX_CALLERS) callers.
     pub fn new(alloc: Global, value: T, callers: u64) -> Result<(TurnLock<T>, PassList<T>), Memory>
-        requires callers { (0 < callers) × (callers ≤ 64) }
+        requires callers { (0 < callers) × (callers ≤ MAX_CALLERS) }
         requires empty { T.stands value [] }
         ensures lock { IfOk result (λ made. (made.0.callers ≡ callers) × (made.0.place ≡ T.place value)) }
         ensures own { IfOk result (λ made. made.1.lock ≡ made.0) }
@@ -67,7 +68,7 @@ impl<T: Served> TurnLock<T> {
     /// Serves the call when its turn comes. The pass has then seen all that was entered before, and the call itself
     /// where it has an answer: a call that found no memory has no place in the history.
     ///
-    /// It may wait for ever. A pass makes at most 2^56 calls, and its next one does not return.
+    /// It may wait for ever. A pass makes at most [`MOST_CALLS`] calls, and its next one does not return.
     pub fn call<R: Wait>(
         &self,
         rt: &R,
@@ -81,7 +82,7 @@ impl<T: Served> TurnLock<T> {
         ensures known_callers { CallersBelow self.now.callers pass.new.seen }
         ensures sure { T.sure call.now → IsOk result }
         ensures same { pass.new ≡ record pass.old { seen = pass.new.seen; calls = pass.old.calls + 1 } }
-        ensures most { pass.new.calls ≤ 2 ^ 56 }
+        ensures most { pass.new.calls ≤ MOST_CALLS }
     {
         if pass.calls >= MOST_CALLS {
             for _ in rt.forever() {}

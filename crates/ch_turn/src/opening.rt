@@ -1,5 +1,6 @@
 //! How a lock begins: a table with the value at home, and one seat that is dealt out to the passes.
 ghost use Rattle.std.specs.Prelude.{◌≡◌, ℕ, ◌<◌, ◌≤◌, [], length, slice_index_or, None, Some, IfOk, vec_capacity};
+ghost use Rattle.ch_base.specs.declared.limits.TheConstants.{MAX_CALLERS};
 ghost use Rattle.ch_turn.specs.Views.{first_view};
 ghost use Rattle.ch_turn.specs.SeatStates.{dealer_view};
 ghost use Rattle.ch_turn.specs.PassModels.{lock_model, fresh_pass};
@@ -18,7 +19,7 @@ pub(crate) fn lay_table<T: Served>(
     value: T,
     callers: u64,
 ) -> Result<(LockTable<T>, LockSeat<T>), Memory>
-    requires callers { callers ≤ 64 }
+    requires callers { callers ≤ MAX_CALLERS }
     requires empty { T.stands value [] }
     ensures sizes { IfOk result (λ r. (r.0.shared.table_id.words ≡ 3) × (r.0.shared.table_id.slots ≡ 1)) }
     ensures callers { IfOk result (λ r. r.0.shared.key.callers ≡ callers) }
@@ -47,7 +48,7 @@ pub(crate) fn deal_passes<T: Served>(
     requires table { (seat.table_id ≡ table.now.table_id) × (table.now.table_id.words ≡ 3) }
     requires seat { seat.me ≡ (dealer_view seat.me.0.place callers 0, []) }
     requires room { (passes.items ≡ []) × (callers ≤ vec_capacity passes) }
-    requires callers { (0 < callers) × (callers ≤ 64) }
+    requires callers { (0 < callers) × (callers ≤ MAX_CALLERS) }
     requires legal { T.legal seat.me.0.place [] }
     ensures count { length result.items ≡ callers }
     ensures each { (i : ℕ) → i < callers

@@ -1,5 +1,6 @@
 //! What a caller calls with.
 ghost use Rattle.std.specs.Prelude.{◌≡◌, ◌<◌};
+ghost use Rattle.ch_base.specs.declared.limits.TheConstants.{MAX_CALLERS};
 ghost use Rattle.ch_turn.specs.Callers.{CallersBelow};
 
 use crate::table::LockSeat;
@@ -37,7 +38,7 @@ impl<T: Served> Pass<T> {
     /// callers.
     pub fn caller(&self) -> u64
         ensures caller { result ≡ self.now.caller }
-        ensures below { (result < self.now.lock.callers) × (result < 64) }
+        ensures below { (result < self.now.lock.callers) × (result < MAX_CALLERS) }
         ensures legal { T.legal self.now.lock.place self.now.seen }
         ensures known_callers { CallersBelow self.now.lock.callers self.now.seen }
     {

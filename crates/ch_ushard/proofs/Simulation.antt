@@ -1,6 +1,7 @@
 -- A step of the shard is a step of each history that it stands for.
 use Rattle.std.proofs.Common.{◌≡◌, ℕ, ◌<◌, cond, [], ◌∷◌, ◌++◌, ap, ap₂, sym, ◌∙◌, MatchResult, Result, Ok, Err, subst}
 use Rattle.ch_base.specs.Growth.{entry}
+use Rattle.ch_base.specs.declared.limits.TheConstants.{MAX_CALLERS}
 use Rattle.ch_base.specs.declared.user.UserCall.{UserCall}
 use Rattle.ch_base.specs.declared.user.UserAnswer.{UserAnswer}
 use Rattle.ch_base.specs.declared.memory.Memory.{Memory}
@@ -23,7 +24,7 @@ pub record Moves (old new : UserShardState) (e : UserEntry) : Type 0 where
   pub watches : new.users.watches ≡ watches_after old.users.watches e
   pub frames : (w : ℕ) → frames_of new.outbox w ≡ cond (user_takes w e) [] (frames_of old.outbox w ++ for_owner w (user_frames_by old.users.signs new.users.signs old.users.watches new.users.watches e.caller e.answer e.call))
 
-pub Stands-moves : (old new : UserShardState) (h : UserHistory) (e : UserEntry) → e.caller < 64 → IsUserWellFormed e.call → Stands old h → Moves old new e → Stands new (h ++ e ∷ [])
+pub Stands-moves : (old new : UserShardState) (h : UserHistory) (e : UserEntry) → e.caller < MAX_CALLERS → IsUserWellFormed e.call → Stands old h → Moves old new e → Stands new (h ++ e ∷ [])
 Stands-moves old new h e below formed stands moves =
     let signs_after : new.users.signs ≡ sign_ins (h ++ e ∷ []) = moves.signs ∙ ap (λ xs. sign_ins_after xs e) stands.signs ∙ sym (sign_ins-push h e) in
     let watches_after : new.users.watches ≡ watches (h ++ e ∷ []) = moves.watches ∙ ap (λ xs. watches_after xs e) stands.watches ∙ sym (watches-push h e) in
@@ -59,7 +60,7 @@ Moves-as old new w call shown a is moves =
 
 -- a call that is answered moves the shard, and one that finds no memory leaves it as it was
 pub Stands-served : (old new : UserShardState) (h : UserHistory) (w : ℕ) (call shown : UserCall) (Gives : UserAnswer → Type 0) (r : Result UserAnswer Memory)
-    → call ≡ shown → w < 64 → IsUserWellFormed call → Stands old h → ((a : UserAnswer) → Gives a → Moves old new (entry w shown a))
+    → call ≡ shown → w < MAX_CALLERS → IsUserWellFormed call → Stands old h → ((a : UserAnswer) → Gives a → Moves old new (entry w shown a))
     → MatchResult r Gives (λ _. IsUnchanged old new) → MatchResult r (λ a. Stands new (h ++ entry w call a ∷ [])) (λ _. Stands new h)
 Stands-served old new h w call shown Gives (Ok a) is below formed stands moves gives =
     Stands-moves old new h (entry w call a) below formed stands (Moves-as old new w call shown a is (moves a gives))
@@ -67,6 +68,6 @@ Stands-served old new h w call shown Gives (Err m) is below formed stands moves 
 
 -- a call that finds memory always
 pub Stands-answered : (old new : UserShardState) (h : UserHistory) (w : ℕ) (call shown : UserCall) (a : UserAnswer)
-    → call ≡ shown → w < 64 → IsUserWellFormed call → Stands old h → Moves old new (entry w shown a) → Stands new (h ++ entry w call a ∷ [])
+    → call ≡ shown → w < MAX_CALLERS → IsUserWellFormed call → Stands old h → Moves old new (entry w shown a) → Stands new (h ++ entry w call a ∷ [])
 Stands-answered old new h w call shown a is below formed stands moves =
     Stands-moves old new h (entry w call a) below formed stands (Moves-as old new w call shown a is moves)

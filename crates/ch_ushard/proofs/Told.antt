@@ -4,6 +4,7 @@ use Rattle.std.proofs.lemmas.Grind.{flat_map-append}
 use Rattle.std.proofs.lemmas.List.Elements.{All-filter, All-map}
 use Rattle.ch_base.specs.declared.frame.Frame.{Frame}
 use Rattle.ch_base.specs.declared.frame.Frame.TheVariants.{Watch}
+use Rattle.ch_base.specs.declared.limits.TheConstants.{MAX_CALLERS}
 use Rattle.ch_history.specs.declared.rows.UserSocket.{UserSocket}
 use Rattle.ch_history.specs.declared.rows.Delivery.{Delivery}
 use Rattle.ch_history.specs.SignIns.{of_user, has_any}
@@ -34,12 +35,12 @@ flat_map_next f xs i x is =
 
 -- the owner of a socket is a caller's number
 abbrev pub IsCaller : Holder → Type 0
-IsCaller h = h.owner < 64
+IsCaller h = h.owner < MAX_CALLERS
 
 -- the owners of the user's sockets are among the owners of all
-pub owners_below : (xs : List UserSocket) (user : List ℕ) → All (λ r. r.owner < 64) xs → All IsCaller (holders_of xs user)
+pub owners_below : (xs : List UserSocket) (user : List ℕ) → All (λ r. r.owner < MAX_CALLERS) xs → All IsCaller (holders_of xs user)
 owners_below xs user all =
-    All-map IsCaller (holder_of (λ (r : UserSocket). r.socket) (λ r. r.owner)) (of_user xs user) (All-filter (λ r. bytes_eq r.user user) (λ r. r.owner < 64) xs all)
+    All-map IsCaller (holder_of (λ (r : UserSocket). r.socket) (λ r. r.owner)) (of_user xs user) (All-filter (λ r. bytes_eq r.user user) (λ r. r.owner < MAX_CALLERS) xs all)
 
 -- The holders of rows
 
@@ -89,6 +90,6 @@ tells_others w socket user none =
 -- without a socket's rows the owners are still callers' numbers
 pub HasOwners-without : (old new : SignsAndWatches) (socket : ℕ) → new.signs ≡ without old.signs socket → new.watches ≡ without old.watches socket → HasOwners old → HasOwners new
 HasOwners-without old new socket signs watches owners = record {
-  signs = subst (All (λ r. r.owner < 64)) (sym signs) (All-filter (λ r. not (r.socket == socket)) (λ r. r.owner < 64) old.signs owners.signs);
-  watches = subst (All (λ r. r.owner < 64)) (sym watches) (All-filter (λ r. not (r.socket == socket)) (λ r. r.owner < 64) old.watches owners.watches);
+  signs = subst (All (λ r. r.owner < MAX_CALLERS)) (sym signs) (All-filter (λ r. not (r.socket == socket)) (λ r. r.owner < MAX_CALLERS) old.signs owners.signs);
+  watches = subst (All (λ r. r.owner < MAX_CALLERS)) (sym watches) (All-filter (λ r. not (r.socket == socket)) (λ r. r.owner < MAX_CALLERS) old.watches owners.watches);
 }

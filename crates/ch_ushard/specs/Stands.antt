@@ -1,5 +1,6 @@
 -- Which histories a user shard stands for.
 use Rattle.std.specs.Prelude.{◌≡◌, ℕ, ◌<◌}
+use Rattle.ch_base.specs.declared.limits.TheConstants.{MAX_CALLERS}
 use Rattle.ch_history.specs.Entries.{UserHistory}
 use Rattle.ch_history.specs.SignIns.{sign_ins, watches}
 use Rattle.ch_history.specs.UserFrames.{user_waiting}
@@ -12,4 +13,4 @@ pub record Stands (shard : UserShardState) (h : UserHistory) : Type 0 where
   pub legal : IsUserLegal h
   pub signs : shard.users.signs ≡ sign_ins h
   pub watches : shard.users.watches ≡ watches h
-  pub frames : (w : ℕ) → w < 64 → frames_of shard.outbox w ≡ user_waiting h w
+  pub frames : (w : ℕ) → w < MAX_CALLERS → frames_of shard.outbox w ≡ user_waiting h w

@@ -1,5 +1,6 @@
 ghost use Rattle.std.specs.Prelude.{◌≡◌, ℕ, ◌<◌, [], ◌∷◌, ◌++◌, All, OnOk};
 ghost use Rattle.std.specs.Arc.{arc_value};
+ghost use Rattle.ch_base.specs.declared.limits.TheConstants.{MAX_CALLERS};
 ghost use Rattle.ch_history.specs.Deliveries.{delivery, for_owner};
 ghost use Rattle.ch_outbox.specs.Handed.{handed};
 ghost use Rattle.ch_outbox.specs.Outbox.{frames_of};
@@ -13,7 +14,7 @@ use std::alloc::Global;
 use std::marker::Model;
 use std::sync::Arc;
 
-/// The frames that a call makes, each with its owner, a number below 64.
+/// The frames that a call makes, each with its owner, a number below `MAX_CALLERS`.
 #[derive(Drop)]
 pub struct Effects {
     frames: Vec<Delivery>,
@@ -21,13 +22,14 @@ pub struct Effects {
 
 impl Model for Effects {
     ghost use Rattle.std.specs.Prelude.{List, ◌<◌, All};
+    ghost use Rattle.ch_base.specs.declared.limits.TheConstants.{MAX_CALLERS};
     ghost use Rattle.ch_history.specs.declared.rows.Delivery.{Delivery};
 
     ghost Value = { List Delivery };
 
     ghost view = { λ m. m.frames.items };
 
-    ghost invariant = { λ m. All (λ d. d.owner < 64) m.frames.items };
+    ghost invariant = { λ m. All (λ d. d.owner < MAX_CALLERS) m.frames.items };
 }
 
 impl Effects {
@@ -42,7 +44,7 @@ impl Effects {
 
     /// Adds the frame for the socket, which shares it with the others that get it.
     pub fn push(&mut self, holder: Holder, printed: &Arc<Printed>) -> Result<(), Memory>
-        requires { holder.owner < 64 }
+        requires { holder.owner < MAX_CALLERS }
         ensures { OnOk result (self.new ≡ self.old ++ delivery holder.owner holder.socket (arc_value printed.now) ∷ []) }
     {
         let delivery = delivery(holder, printed)?;
@@ -57,7 +59,7 @@ impl Effects {
         printed: &Arc<Printed>,
         except: Option<u64>,
     ) -> Result<(), Memory>
-        requires { All (λ h. h.owner < 64) holders }
+        requires { All (λ h. h.owner < MAX_CALLERS) holders }
         ensures { OnOk result (self.new ≡ self.old ++ handed (arc_value printed.now) except holders.entry) }
     {
         hand_out(holders, printed, except, &mut self.frames)

@@ -1,6 +1,7 @@
 ghost use Rattle.std.specs.Prelude.{◌≡◌, ◌<◌, None, false, IfOk, MatchResult, map};
 ghost use Rattle.ch_base.specs.Printed.{is_opened};
 ghost use Rattle.ch_base.specs.declared.frame.Frame.TheVariants.{Event};
+ghost use Rattle.ch_base.specs.declared.limits.TheConstants.{MAX_CALLERS};
 ghost use Rattle.ch_history.specs.SignIns.{of_user};
 ghost use Rattle.ch_history.specs.UserFrames.{to_socket, user_channel};
 ghost use Rattle.ch_ushard.specs.UserShardState.{IsUnchanged, TerminateGives, SendToGives, TakeGives};
@@ -42,7 +43,7 @@ impl UserShard {
     }
 
     pub(crate) fn take(&mut self, caller: u64) -> UserAnswer
-        requires { caller < 64 }
+        requires { caller < MAX_CALLERS }
         ensures { TakeGives self.old self.new caller result }
     {
         UserAnswer::Frames(self.outbox.take_all(caller))

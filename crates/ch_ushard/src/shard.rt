@@ -1,5 +1,6 @@
 ghost use Rattle.std.specs.Prelude.{◌≡◌, ◌<◌, ◌-◌, ◌^◌, ℕ, List, [], ◌∷◌, ◌++◌, IsOk, IfOk, MatchResult, min};
 ghost use Rattle.ch_base.specs.Growth.{entry};
+ghost use Rattle.ch_base.specs.declared.limits.TheConstants.{MAX_CALLERS};
 
 use ch_base::{Memory, UserAnswer, UserCall};
 use ch_outbox::Outbox;
@@ -49,14 +50,14 @@ impl UserShard {
         })
     }
 
-    /// Serves one call of a caller, who has a number below 64.
+    /// Serves one call of a caller, who has a number below `MAX_CALLERS`.
     ///
     /// All memory of a call is taken before its first change. Of every history that the shard then
     /// stands for the law of watchers holds: while a socket watches a user, the online and offline
     /// frames that it is sent alternate and end at whether the user is online (Pusher Channels
     /// documentation, "Watchlist events").
     pub fn apply(&mut self, caller: u64, call: &UserCall) -> Result<UserAnswer, Memory>
-        requires caller { caller < 64 }
+        requires caller { caller < MAX_CALLERS }
         requires formed { IsUserWellFormed call.now }
         ensures stands { (h : UserHistory) → Stands self.old h → MatchResult result
             (λ answer. Stands self.new (h ++ entry caller call.now answer ∷ []))

@@ -1,5 +1,6 @@
 ghost use Rattle.std.specs.Prelude.{◌≡◌, ◌<◌, [], ◌∷◌, true, IfOk, MatchResult, if◌then◌else◌};
 ghost use Rattle.ch_base.specs.declared.frame.Frame.TheVariants.{Watch};
+ghost use Rattle.ch_base.specs.declared.limits.TheConstants.{MAX_CALLERS};
 ghost use Rattle.ch_history.specs.Deliveries.{delivery};
 ghost use Rattle.ch_history.specs.SignIns.{has_any};
 ghost use Rattle.ch_ushard.specs.UserShardState.{IsUnchanged, SignInGives, WatchGives};
@@ -18,7 +19,7 @@ impl UserShard {
         socket: u64,
         user: &Text,
     ) -> Result<UserAnswer, Memory>
-        requires { caller < 64 }
+        requires { caller < MAX_CALLERS }
         ensures { MatchResult result (λ answer. SignInGives self.old self.new caller socket user.now answer) (λ _. IsUnchanged self.old self.new) }
     {
         if self.watches.is_signed_in(socket, user) {
@@ -37,7 +38,7 @@ impl UserShard {
         socket: u64,
         watched: &Text,
     ) -> Result<UserAnswer, Memory>
-        requires { caller < 64 }
+        requires { caller < MAX_CALLERS }
         ensures { MatchResult result (λ answer. WatchGives self.old self.new caller socket watched.now answer) (λ _. IsUnchanged self.old self.new) }
     {
         if self.watches.is_watching(socket, watched) {
@@ -62,7 +63,7 @@ fn first_word(
     watcher: Holder,
     user: &Text,
 ) -> Result<Effects, Memory>
-    requires { watcher.owner < 64 }
+    requires { watcher.owner < MAX_CALLERS }
     ensures { IfOk result (λ made. made ≡ (if has_any watches.now.signs user.now then delivery watcher.owner watcher.socket (Watch true user.now) ∷ [] else [])) }
 {
     let mut made = Effects::new(press.alloc());
