@@ -1,5 +1,6 @@
 -- What a write to a sink takes.
-use Rattle.std.specs.Prelude.{ℕ, ◌<◌, ◌≤◌, List, [], Option, length, take}
+use Rattle.std.specs.Prelude.{◌≡◌, ◌⊎◌, ℕ, ◌<◌, ◌≤◌, List, [], Option, length, take}
+use Rattle.std.specs.Io.KnownBytes.{Appends}
 use Rattle.ch_io.specs.declared.sink.Wrote.{Wrote as Answer}
 use Rattle.ch_io.specs.declared.sink.Wrote.TheVariants.{Wrote, Failed}
 
@@ -17,3 +18,9 @@ IsPart Failed bytes = Unit {0}
 pub record SinkTold : Type 0 where
   pub held : Option (List ℕ)
   pub faults : ℕ
+
+-- a line was written, or a front of it where a write failed
+pub record WritesLast (line : List ℕ) (told_old told_new : Option (List ℕ)) (write_failed : Type 0) : Type 0 where
+  pub count : ℕ
+  pub gained : Appends told_old told_new (take count line)
+  pub whole : (take count line ≡ line) ⊎ write_failed

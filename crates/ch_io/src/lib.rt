@@ -30,7 +30,7 @@ pub use mem_source::MemSource;
 pub use post::{Handed, Post, Posted};
 pub use readers::ReaderSource;
 pub use schedule::Schedule;
-pub use sink::{Sink, WriteFailed, Wrote, write_all};
+pub use sink::{Sink, WriteFailed, Wrote, write_all, write_last};
 pub use source::{Got, Source};
 pub use writers::WriterSink;
 

@@ -1,7 +1,7 @@
 ghost use Rattle.std.specs.Prelude.{◌≡◌, ℕ, ◌<◌, ◌≤◌, List, Option, length, take, OnErr, OnOk};
 ghost use Rattle.std.specs.Io.KnownBytes.{Appends};
 ghost use Rattle.ch_io.specs.Counts.{Rose};
-ghost use Rattle.ch_io.specs.Writes.{taken, IsPart};
+ghost use Rattle.ch_io.specs.Writes.{taken, IsPart, WritesLast};
 
 /// What a write answers.
 #[derive(Clone, Copy, Debug, PartialEq, Eq)]
@@ -48,4 +48,12 @@ pub fn write_all<K: Sink>(sink: &mut K, bytes: &[u8]) -> Result<(), WriteFailed>
         }
     }
     Ok(())
+}
+
+/// Writes a line as the last one. That this fails is not told.
+pub fn write_last<K: Sink>(sink: &mut K, line: &str)
+    ensures names { WritesLast line.now (K.told sink.old) (K.told sink.new) (Rose (K.faults sink.old) (K.faults sink.new)) }
+    ensures later { K.faults sink.old ≤ K.faults sink.new }
+{
+    let _ = write_all(sink, line.as_bytes());
 }

@@ -4,7 +4,7 @@ use Rattle.std.specs.List.{count_by}
 use Rattle.std.specs.Io.KnownBytes.{Consumes, Appends, IsAtEnd}
 use Rattle.ch_config.specs.declared.config.Config.{Config}
 use Rattle.ch_io.specs.Counts.{Rose}
-use Rattle.ch_transcript.specs.Replayed.{WritesLast}
+use Rattle.ch_io.specs.Writes.{WritesLast}
 use Rattle.ch_transcript.specs.Outcomes.{Outcome, HasOutcome, ends}
 
 -- ---- every transcript

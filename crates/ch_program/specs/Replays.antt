@@ -1,10 +1,11 @@
 -- A replay, by the words and the configuration that they name.
 use Rattle.std.specs.Prelude.{◌≡◌, ◌↔◌, ℕ, true, false, List, [], ◌∷◌, Option, codes, IfOk, IfErr, IsErr}
 use Rattle.ch_config.specs.declared.config.Config.{Config}
-use Rattle.ch_replay.specs.ConfigLines.{config_or_line, Declines}
+use Rattle.ch_given.specs.ConfigLines.{config_or_line, Declines}
+use Rattle.ch_io.specs.Writes.{WritesLast}
 use Rattle.ch_replay.specs.Words.{is_replay, usage_line}
 use Rattle.ch_transcript.specs.declared.ending.Ending.{Ending}
-use Rattle.ch_transcript.specs.Replayed.{Ran, WritesLast, status_of}
+use Rattle.ch_transcript.specs.Replayed.{Ran, status_of}
 
 -- the words that ask for a replay under the built-in configuration
 abbrev pub plain_replay : List (List ℕ)

@@ -7,7 +7,8 @@ use Rattle.ch_config.specs.declared.config.Config.{Config}
 use Rattle.ch_outcomes.specs.Answered.{AnswersOutcome}
 use Rattle.ch_outcomes.proofs.OneOutcome.{one_outcome}
 use Rattle.ch_transcript.specs.Printing.{error_line, long_line}
-use Rattle.ch_transcript.specs.Replayed.{Ran, Refuses, WritesLast, status_of}
+use Rattle.ch_io.specs.Writes.{WritesLast}
+use Rattle.ch_transcript.specs.Replayed.{Ran, Refuses, status_of}
 use Rattle.ch_transcript.specs.Outcomes.{Outcome, HasOutcome, ends}
 use Rattle.ch_transcript.specs.declared.ending.Ending.{Ending}
 use Rattle.ch_transcript.specs.declared.ending.Ending.TheVariants as ending

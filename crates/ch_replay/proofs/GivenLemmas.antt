@@ -4,7 +4,7 @@ use Rattle.std.specs.Prelude.{◌⊎◌}
 use Rattle.ch_config.specs.declared.config.Config.{Config}
 use Rattle.ch_config_text.specs.declared.fault.ConfigFault.{ConfigFault}
 use Rattle.ch_config_text.specs.declared.fault.ConfigFault.TheVariants.{Memory}
-use Rattle.ch_replay.specs.ConfigLines.{config_or_fault}
+use Rattle.ch_given.specs.ConfigLines.{config_or_fault}
 
 -- what holds of the configuration that was read
 pub of_config : (given : Result Config ConfigFault) (config : Config) (P : Config → Type 0) → given ≡ Ok config → P config → IfOk (config_or_fault given) P

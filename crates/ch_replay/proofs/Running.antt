@@ -4,11 +4,12 @@ use Rattle.std.specs.Prelude.{Option, Some, None, Result, Ok, Err, OnOk, OnErr, 
 use Rattle.std.proofs.Math.Seq.{take-length}
 use Rattle.std.proofs.lemmas.List.{take-append-drop}
 use Rattle.std.specs.Io.KnownBytes.{Consumes, Appends, IsAtEnd}
+use Rattle.ch_io.specs.Writes.{WritesLast}
 use Rattle.ch_io.proofs.Known.{Consumes-then, Consumes-none, Appends-then, Appends-none}
 use Rattle.ch_transcript.specs.Lines.{has_line_end}
 use Rattle.ch_transcript.specs.declared.limits.TheConstants.{LONGEST_LINE}
 use Rattle.ch_transcript.specs.Printing.{error_line, long_line}
-use Rattle.ch_transcript.specs.Replayed.{Ran, IsPart, IsPrefix, Refuses, WritesLast}
+use Rattle.ch_transcript.specs.Replayed.{Ran, IsPart, IsPrefix, Refuses}
 use Rattle.ch_config.specs.declared.config.Config.{Config}
 use Rattle.ch_transcript.specs.Outcomes.{Plays, HasOutcome, ends}
 use Rattle.ch_transcript.specs.Progress.{Progress, beginning, Played}
@@ -22,13 +23,6 @@ use Rattle.ch_player.specs.Playing.{IsAt}
 use Rattle.ch_replay.specs.Serving.{Serves, Stops, EndsAt}
 use Rattle.ch_player.specs.declared.player.Player.{Player}
 use Rattle.ch_replay.specs.declared.line_reader.Next.TheVariants as next
-
-pub WritesLast-from : {T E : Type 0} (line : List ℕ) (old new : Option (List ℕ)) (failed : Type 0) (r : Result T E) → OnOk r (Appends old new line)
-    → OnErr r ((n : ℕ) × Appends old new (take n line)) → OnErr r failed → WritesLast line old new failed
-WritesLast-from line old new failed (Ok x) ok err f =
-    let P : List ℕ → Type 0 = λ z. Appends old new z in
-    record { count = length line; gained = subst P (sym (take-length line)) ok; whole = inl (take-length line) }
-WritesLast-from line old new failed (Err x) ok err f = record { count = err.0; gained = err.1; whole = inr f }
 
 -- what was read is the lines so far and what the reader holds; what was written is theirs
 pub record Runs (config : Config) (left_old left_now told_old told_now : Option (List ℕ)) (limit number : ℕ) (player : Player) (pending : List ℕ) : Type 0 where

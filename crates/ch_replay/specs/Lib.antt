@@ -1,4 +1,3 @@
-pub mod ConfigLines
 pub mod Playable
 pub mod Reading
 pub mod Serving

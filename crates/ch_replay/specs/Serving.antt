@@ -4,7 +4,7 @@ use Rattle.std.specs.Io.KnownBytes.{Appends}
 use Rattle.ch_config.specs.declared.config.Config.{Config}
 use Rattle.ch_outcomes.specs.Answered.{Refusal, IsReadTo}
 use Rattle.ch_transcript.specs.Printing.{error_line, long_line}
-use Rattle.ch_transcript.specs.Replayed.{WritesLast}
+use Rattle.ch_io.specs.Writes.{WritesLast}
 use Rattle.ch_transcript.specs.Progress.{Played}
 use Rattle.ch_transcript.specs.declared.ending.Ending.{Ending}
 use Rattle.ch_transcript.specs.declared.ending.Ending.TheVariants.{NotALine, LongLine, WriteFailed, Memory}

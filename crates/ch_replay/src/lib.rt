@@ -9,4 +9,4 @@ mod fault_lines;
 mod line_reader;
 mod replaying;
 
-pub use replaying::{decline, replay, write_last};
+pub use replaying::replay;

@@ -1,24 +1,26 @@
 ghost use Rattle.std.specs.Prelude.{◌≡◌, ◌≤◌, ◌↔◌, true, false, MatchResult, IfOk, IfErr, IsErr, IfSome, OnOk, ◌⊎◌};
 ghost use Rattle.std.specs.Option.{option_copied};
+ghost use Rattle.ch_given.specs.ConfigLines.{config_or_line, Declines};
 ghost use Rattle.ch_io.specs.Counts.{Rose};
+ghost use Rattle.ch_io.specs.Writes.{WritesLast};
 ghost use Rattle.ch_outcomes.specs.Answered.{AnswersOutcome, Refusal, IsReadTo};
 ghost use Rattle.ch_transcript.specs.Printing.{error_line, long_line};
-ghost use Rattle.ch_transcript.specs.Replayed.{Ran, WritesLast, status_of};
+ghost use Rattle.ch_transcript.specs.Replayed.{Ran, status_of};
 ghost use Rattle.ch_transcript.specs.Outcomes.{Plays, Outcome, HasOutcome};
 ghost use Rattle.ch_transcript.specs.Progress.{Progress};
 ghost use Rattle.ch_config.specs.Config.{IsConfig};
 ghost use Rattle.ch_player.specs.Playing.{IsAt, IsSoundPlayer, config_of};
-ghost use Rattle.ch_replay.specs.ConfigLines.{config_or_line, fault_line, Declines};
 ghost use Rattle.ch_replay.specs.Playable.{IsPlayable};
 ghost use Rattle.ch_replay.specs.Serving.{Serves, Stops, EndsAt, Names};
 ghost use Rattle.ch_replay.specs.Words.{is_replay, usage_line};
 
-use crate::fault_lines::{error_line, fault_line, long_line};
+use crate::fault_lines::{error_line, long_line};
 use crate::line_reader::{LineReader, Next};
 use ch_base::Text;
 use ch_config::Config;
-use ch_config_text::{ConfigFault, read_config};
-use ch_io::{Sink, Source, write_all};
+use ch_config_text::read_config;
+use ch_given::decline;
+use ch_io::{Sink, Source, write_all, write_last};
 use ch_player::{LineFault, Player};
 use ch_transcript::Ending;
 use std::alloc::Global;
@@ -75,20 +77,6 @@ pub fn replay<S: Source, K: Sink>(
     match read_config(alloc, bytes) {
         Ok(config) => status_of(replay_lines(alloc, config, source, sink)),
         Err(fault) => decline(alloc, fault, sink),
-    }
-}
-
-/// Says what is wrong with the bytes of a configuration, and answers the status.
-pub fn decline<K: Sink>(alloc: Global, fault: ConfigFault, sink: &mut K) -> u8
-    ensures declines { Declines (fault_line fault) result (K.told sink.old) (K.told sink.new) (Rose (K.faults sink.old) (K.faults sink.new)) }
-    ensures memory { fault ≡ ConfigFault.Memory → (result ≡ 7) × (sink.new ≡ sink.old) }
-{
-    match fault_line(alloc, fault) {
-        Ok(line) => {
-            write_last(sink, line.as_str());
-            3
-        }
-        Err(_) => 7,
     }
 }
 
@@ -196,12 +184,4 @@ fn end_at<K: Sink>(alloc: Global, sink: &mut K, ending: Ending, number: u64) -> 
         Err(_) => return Ending::Memory,
     }
     ending
-}
-
-/// Writes a last line. That this fails changes no status.
-pub fn write_last<K: Sink>(sink: &mut K, line: &str)
-    ensures names { WritesLast line.now (K.told sink.old) (K.told sink.new) (Rose (K.faults sink.old) (K.faults sink.new)) }
-    ensures later { K.faults sink.old ≤ K.faults sink.new }
-{
-    let _ = write_all(sink, line.as_bytes());
 }

@@ -4,7 +4,7 @@ ghost use Rattle.std.specs.Option.{option_copied};
 ghost use Rattle.ch_config.specs.Config.{IsConfig};
 ghost use Rattle.ch_io.specs.Counts.{Rose};
 ghost use Rattle.ch_replay.specs.ConfigLines.{config_or_line, Declines};
-ghost use Rattle.ch_transcript.specs.Replayed.{WritesLast};
+ghost use Rattle.ch_io.specs.Writes.{WritesLast};
 ghost use Rattle.ch_serve.specs.Words.{IsReadOr, IfDeclined, is_serve, usage_line};
 
 use ch_base::Text;

@@ -2,10 +2,10 @@
 use Rattle.std.specs.Prelude.{◌≡◌, ◌⊎◌, ◌↔◌, ℕ, true, false, List, [], Option, IfErr, IfOk, IsErr}
 use Rattle.std.specs.Io.KnownBytes.{Appends}
 use Rattle.ch_config.specs.declared.config.Config.{Config}
-use Rattle.ch_replay.specs.ConfigLines.{config_or_line, Declines}
+use Rattle.ch_given.specs.ConfigLines.{config_or_line, Declines}
 use Rattle.ch_serve.specs.Words.{is_serve, usage_line}
 use Rattle.ch_server.specs.Lines.{listen_failed_line, listening_line}
-use Rattle.ch_transcript.specs.Replayed.{WritesLast}
+use Rattle.ch_io.specs.Writes.{WritesLast}
 
 -- It listened and said where; or it couldn't listen, and said so; or there was no memory before that.
 abbrev pub Listens : Config → ℕ → Option (List ℕ) → Option (List ℕ) → Type 0 → Type 0

@@ -5,7 +5,7 @@ ghost use Rattle.ch_config.specs.Config.{built_in};
 ghost use Rattle.ch_io.specs.Counts.{Rose};
 ghost use Rattle.ch_replay.specs.Playable.{IsPlayable};
 ghost use Rattle.ch_transcript.specs.Outcomes.{HasOutcome, ends};
-ghost use Rattle.ch_transcript.specs.Replayed.{WritesLast};
+ghost use Rattle.ch_io.specs.Writes.{WritesLast};
 ghost use Rattle.ch_soak.specs.declared.limits.TheConstants.{MOST_LINES};
 ghost use Rattle.ch_soak.specs.Drawing.{left_of};
 ghost use Rattle.ch_soak.specs.SoakText.{usage_line, IsSummary, Writes, Breaks};

@@ -21,12 +21,6 @@ pub record IsPart (config : Config) (at_end : Type 0) (read wrote : List ℕ) : 
   pub outcome : HasOutcome config lines (ends 0 text)
   pub prefix : IsPrefix wrote text
 
--- a line of output was written, or a front of it where a write failed
-pub record WritesLast (line : List ℕ) (told_old told_new : Option (List ℕ)) (write_failed : Type 0) : Type 0 where
-  pub count : ℕ
-  pub gained : Appends told_old told_new (take count line)
-  pub whole : (take count line ≡ line) ⊎ write_failed
-
 -- A line is refused, and named last. The outcome is that of what was read however the source goes on, where it isn't at
 -- its end: so the refused line was read to its line end, or to the end of the source, or past the longest line.
 pub record Refuses (config : Config) (status : ℕ) (name : ℕ → List ℕ) (at_end write_failed : Type 0) (read wrote : List ℕ) : Type 0 where

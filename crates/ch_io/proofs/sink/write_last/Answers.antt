@@ -1,8 +1,8 @@
 use Rattle.std.proofs.Common.{subst, List, ℕ}
-use Rattle.ch_replay.proofs.Running.{WritesLast-from}
-use Rattle.ch_transcript.specs.Replayed.{WritesLast}
 use Rattle.ch_io.specs.Counts.{Rose}
-use Rattle.ch_replay.proofs.replaying.write_last.Goals as goal
+use Rattle.ch_io.specs.Writes.{WritesLast}
+use Rattle.ch_io.proofs.LastLines.{WritesLast-from}
+use Rattle.ch_io.proofs.sink.write_last.Goals as goal
 
 pub returns-clause-names : goal.returns-clause-names
 returns-clause-names g c =

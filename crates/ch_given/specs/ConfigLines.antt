@@ -1,4 +1,4 @@
--- The configuration of a replay, or the line that says why there is none.
+-- The configuration that a program is given, or the line that says why there is none.
 use Rattle.std.specs.Prelude.{◌≡◌, ℕ, List, [], ◌++◌, codes, Option, None, Some, Result, Ok, Err, ◌⊎◌}
 use Rattle.std.specs.Io.KnownBytes.{Appends}
 use Rattle.ch_config.specs.declared.config.Config.{Config}
@@ -6,8 +6,8 @@ use Rattle.ch_config_text.specs.Config.{config_in}
 use Rattle.ch_config_text.specs.Fields.{field_name}
 use Rattle.ch_config_text.specs.declared.fault.ConfigFault.{ConfigFault}
 use Rattle.ch_config_text.specs.declared.fault.ConfigFault.TheVariants.{NotJson, Missing, Bad, Memory}
+use Rattle.ch_io.specs.Writes.{WritesLast}
 use Rattle.ch_transcript.specs.Printing.{line_end}
-use Rattle.ch_transcript.specs.Replayed.{WritesLast}
 
 -- the line where no bytes of a configuration are given
 abbrev pub unread_line : List ℕ
