@@ -33,6 +33,3 @@ pub use schedule::Schedule;
 pub use sink::{Sink, WriteFailed, Wrote, write_all, write_last};
 pub use source::{Got, Source};
 pub use writers::WriterSink;
-
-#[cfg(test)]
-mod tests;

@@ -20,8 +20,6 @@ mod pass_list;
 mod steps;
 mod table;
 mod tally;
-#[cfg(test)]
-mod tests;
 mod waiting;
 
 pub use closing::Closed;

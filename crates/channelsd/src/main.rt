@@ -9,9 +9,6 @@ use ch_program::program;
 use std::process::ExitCode;
 use std::{env, io};
 
-#[cfg(test)]
-mod tests;
-
 fn main(rt: HostRuntime) -> ExitCode {
     let mut source = ReaderSource::new(rt.reader());
     let mut sink = WriterSink::new(io::writer(&rt));

@@ -1,7 +1,7 @@
 use denote.Param.Send.{sendable, given_sync}
 use Rattle.std.proofs.Crossing.{crosses}
 use Rattle.ch_turn.proofs.TallyCrossing.{tally_pass, tally_lock}
-use Rattle.ch_turn.proofs.tests.count_in_threads.Goals as goal
+use Rattle.rows_turn.proofs.tally.count_in_threads.Goals as goal
 
 pub join-requires-send-F : goal.join-requires-send-F
 join-requires-send-F g c κs within = let rt = c.type_bounds.sync-R in search (sendable, crosses, given_sync, tally_pass, tally_lock) depth 24

@@ -1,4 +1,4 @@
-use crate::{
+use ch_io::{
     Clock, Got, MemClock, MemSink, MemSource, ReaderSource, Sink, Source, WriterSink, Wrote,
     write_all,
 };

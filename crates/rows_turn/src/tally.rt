@@ -1,7 +1,7 @@
 //! The lock round a tally, in one thread and in two.
 ghost use Rattle.std.specs.Prelude.{◌≡◌, ◌<◌, IfSome};
 
-use crate::{Add, Closed, Pass, Tally, TurnLock};
+use ch_turn::{Add, Closed, Pass, Tally, TurnLock};
 use std::alloc::Global;
 use std::sync::Wait;
 use std::test::Fail;
