@@ -1,12 +1,11 @@
 -- What a drill comes to.
-use Rattle.std.specs.Prelude.{◌≡◌, ◌==◌, ◌||◌, ℕ, Bool, List, length, take, All, Option, Some, ◌⊎◌}
+use Rattle.std.specs.Prelude.{◌≡◌, ◌==◌, ◌||◌, ℕ, Bool, List, length, take, All, Option, Some}
 use Rattle.std.specs.Io.KnownBytes.{Appends}
 use Rattle.ch_clients.specs.Clients.{AreNone}
 use Rattle.ch_house.specs.Closes.{ClosedModel}
 use Rattle.ch_worker.specs.Workers.{WorkerView}
 use Rattle.ch_drill.specs.DrillCloses.{closed_after}
 use Rattle.ch_drill.specs.DrillCounts.{drill_counts, turns_of}
-use Rattle.ch_drill.specs.DrillText.{usage_line}
 use Rattle.ch_drill.specs.declared.words.Drill.{Drill}
 
 -- the worker took so many turns and one connection, and nobody is there any more
@@ -24,11 +23,6 @@ pub record IsDrilled (drill : Drill) (closed : Option ClosedModel) (workers : Li
 -- a front of the text was written
 abbrev pub WritesFront : List ℕ → Option (List ℕ) → Option (List ℕ) → Type 0
 WritesFront text told_old told_new = (n : ℕ) × Appends told_old told_new (take n text)
-
--- the usage line was written, unless a write failed
-abbrev pub WritesUsage : Option (List ℕ) → Option (List ℕ) → Type 0 → Type 0
-WritesUsage told_old told_new write_failed =
-    Appends told_old told_new usage_line ⊎ (write_failed × WritesFront usage_line told_old told_new)
 
 -- the statuses with which a drill ends
 abbrev pub is_status : ℕ → Bool

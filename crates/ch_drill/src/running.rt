@@ -2,9 +2,10 @@
 ghost use Rattle.std.specs.Prelude.{◌≡◌, ◌≢◌, ◌↔◌, [], true, None, Some, All, IfOk, IfSome, IsTrue};
 ghost use Rattle.std.specs.Io.KnownBytes.{Appends};
 ghost use Rattle.ch_io.specs.Counts.{Rose};
+ghost use Rattle.ch_io.specs.Writes.{WritesLast};
 ghost use Rattle.ch_drill.specs.DrillCounts.{IsSmall};
-ghost use Rattle.ch_drill.specs.DrillRuns.{HasWorked, IsDrilled, WritesFront, WritesUsage, is_status};
-ghost use Rattle.ch_drill.specs.DrillText.{drill_text};
+ghost use Rattle.ch_drill.specs.DrillRuns.{HasWorked, IsDrilled, WritesFront, is_status};
+ghost use Rattle.ch_drill.specs.DrillText.{drill_text, usage_line};
 ghost use Rattle.ch_drill.specs.DrillWords.{AsksFor, IsDrill};
 ghost use Rattle.ch_drill.specs.declared.words.Drill.{Drill as asked};
 
@@ -15,7 +16,7 @@ use crate::words::{Drill, drill_of};
 use crate::working::work_all;
 use ch_base::{Memory, Text};
 use ch_house::HouseClosed;
-use ch_io::{Sink, WriteFailed, write_all};
+use ch_io::{Sink, WriteFailed, write_all, write_last};
 use ch_net::MemLink;
 use ch_pool::{Ran, WorkerList};
 use ch_worker::{NoGate, Worker};
@@ -42,7 +43,7 @@ pub fn drill<R: Threads + Wait + Sync, K: Sink>(
         × IsDrilled d result.closed result.workers
         × Appends (K.told sink.old) (K.told sink.new) (drill_text d) }
     ensures words { result.status ≡ 2 → IsDrill words.now None }
-    ensures usage { result.status ≡ 2 → WritesUsage (K.told sink.old) (K.told sink.new)
+    ensures usage { result.status ≡ 2 → WritesLast usage_line (K.told sink.old) (K.told sink.new)
         (Rose (K.faults sink.old) (K.faults sink.new)) }
     ensures broken { result.status ≡ 6 → (d : asked) × AsksFor words.now d
         × WritesFront (drill_text d) (K.told sink.old) (K.told sink.new) }
@@ -61,11 +62,11 @@ pub fn drill<R: Threads + Wait + Sync, K: Sink>(
 /// Writes the usage line.
 fn refuse<K: Sink>(alloc: Global, sink: &mut K) -> Ran<MemLink>
     ensures status { result.status ≡ 2 }
-    ensures usage { WritesUsage (K.told sink.old) (K.told sink.new)
+    ensures usage { WritesLast usage_line (K.told sink.old) (K.told sink.new)
         (Rose (K.faults sink.old) (K.faults sink.new)) }
     ensures nothing { (result.closed ≡ None) × (result.workers ≡ []) }
 {
-    let _ = write_all(sink, usage_text().as_bytes());
+    write_last(sink, usage_text());
     Ran::ended(alloc, 2)
 }
 

@@ -1,8 +1,8 @@
 -- A soak, by its words.
 use Rattle.std.specs.Prelude.{◌≡◌, ◌⊎◌, ℕ, List, Option}
+use Rattle.ch_io.specs.Writes.{WritesLast}
 use Rattle.ch_soak.specs.SoakText.{Breaks, Writes, usage_line}
 use Rattle.ch_soak.specs.SoakWords.{AsksForNone}
-use Rattle.ch_io.specs.Writes.{WritesLast}
 
 -- The line that sums the soak up was written, or the status tells why it wasn't.
 pub record Soaks (words : List (List ℕ)) (status : ℕ) (told_old told_new : Option (List ℕ)) (write_failed : Type 0) : Type 0 where

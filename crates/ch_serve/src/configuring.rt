@@ -2,16 +2,16 @@
 ghost use Rattle.std.specs.Prelude.{◌≡◌, ◌↔◌, true, false, IfOk, MatchResult};
 ghost use Rattle.std.specs.Option.{option_copied};
 ghost use Rattle.ch_config.specs.Config.{IsConfig};
+ghost use Rattle.ch_given.specs.ConfigLines.{config_or_line, Declines};
 ghost use Rattle.ch_io.specs.Counts.{Rose};
-ghost use Rattle.ch_replay.specs.ConfigLines.{config_or_line, Declines};
 ghost use Rattle.ch_io.specs.Writes.{WritesLast};
 ghost use Rattle.ch_serve.specs.Words.{IsReadOr, IfDeclined, is_serve, usage_line};
 
 use ch_base::Text;
 use ch_config::Config;
 use ch_config_text::read_config;
-use ch_io::Sink;
-use ch_replay::{decline, write_last};
+use ch_given::decline;
+use ch_io::{Sink, write_last};
 use std::alloc::Global;
 
 /// The configuration of these bytes, for the words of a command line that ask for a server. No bytes are given where they

@@ -3,9 +3,9 @@ ghost use Rattle.std.specs.Prelude.{◌≡◌, ◌≤◌, ◌⊎◌, ℕ, List, 
 ghost use Rattle.std.specs.Io.KnownBytes.{Appends};
 ghost use Rattle.ch_config.specs.Config.{built_in};
 ghost use Rattle.ch_io.specs.Counts.{Rose};
+ghost use Rattle.ch_io.specs.Writes.{WritesLast};
 ghost use Rattle.ch_replay.specs.Playable.{IsPlayable};
 ghost use Rattle.ch_transcript.specs.Outcomes.{HasOutcome, ends};
-ghost use Rattle.ch_io.specs.Writes.{WritesLast};
 ghost use Rattle.ch_soak.specs.declared.limits.TheConstants.{MOST_LINES};
 ghost use Rattle.ch_soak.specs.Drawing.{left_of};
 ghost use Rattle.ch_soak.specs.SoakText.{usage_line, IsSummary, Writes, Breaks};
@@ -17,7 +17,7 @@ use crate::summing::Summing;
 use crate::words::{Soak, soak_of};
 use ch_base::{Memory, Text};
 use ch_config_text::built_in_text;
-use ch_io::{Sink, write_all};
+use ch_io::{Sink, write_all, write_last};
 use ch_replay::replay;
 use std::alloc::Global;
 
@@ -76,7 +76,7 @@ pub fn soak<K: Sink>(alloc: Global, words: &[Text], sink: &mut K) -> u8
 fn write_usage<K: Sink>(sink: &mut K)
     ensures { WritesLast usage_line (K.told sink.old) (K.told sink.new) (Rose (K.faults sink.old) (K.faults sink.new)) }
 {
-    let _ = write_all(sink, usage_text().as_bytes());
+    write_last(sink, usage_text());
 }
 
 /// The line that sums up the output of the soak's transcript.
