@@ -1,4 +1,4 @@
-ghost use Rattle.std.specs.Prelude.{All, IfOk, OnOk};
+ghost use Rattle.std.specs.Prelude.{IfOk};
 ghost use Rattle.ch_edge.specs.Ends.{IsNewLink};
 
 use ch_base::{Bytes, Text};
@@ -16,28 +16,6 @@ fn link(alloc: Global, answer: &[u8]) -> Result<MemLink, Fail>
     let script = Script::new(Vec::new(alloc), Vec::new(alloc));
     let bytes = answer.to_vec(alloc)?;
     Ok(MemLink::new(alloc, bytes, Vec::new(alloc), OtherSide::HangsUp, script))
-}
-
-/// Adds such a link.
-fn add_link(alloc: Global, links: &mut Vec<MemLink>, answer: &[u8]) -> Result<(), Fail>
-    requires { All IsNewLink links.old.items }
-    ensures { OnOk result (All IsNewLink links.new.items) }
-{
-    let link = link(alloc, answer)?;
-    links.push(link)?;
-    Ok(())
-}
-
-/// The links of the first posts.
-fn links(alloc: Global) -> Result<Vec<MemLink>, Fail>
-    ensures { IfOk result (λ links. All IsNewLink links.items) }
-{
-    let mut links = Vec::new(alloc);
-    add_link(alloc, &mut links, b"HTTP/1.1 204 No Content\r\n")?;
-    add_link(alloc, &mut links, b"HTTP/1.0 500 Oh\r\n\r\nno")?;
-    add_link(alloc, &mut links, b"HTTP/2 200\n")?;
-    add_link(alloc, &mut links, b"HTTP/1.1 200")?;
-    Ok(links)
 }
 
 #[test]
