@@ -1,5 +1,5 @@
-ghost use Rattle.std.specs.Prelude.{◌≡◌, IfOk, IsTrue, option_copied, string_bytes};
-ghost use Rattle.ch_history.specs.ChannelName.{is_good_name, kind_of, needs_auth};
+ghost use Rattle.std.specs.Prelude.{◌≡◌, IfOk, option_copied, string_bytes};
+ghost use Rattle.ch_history.specs.ChannelName.{kind_of, needs_auth};
 ghost use Rattle.ch_transcript.specs.Joining.{auth_member, data_member, join_text};
 
 use crate::authorization::channel_auth;
@@ -18,7 +18,6 @@ pub fn join_text(
     channel: &Text,
     channel_data: Option<&Text>,
 ) -> Result<Text, Memory>
-    requires { IsTrue (is_good_name channel.now) }
     ensures { IfOk result (λ t. t ≡ join_text config.now number channel.now (option_copied channel_data.entry)) }
 {
     let data = match channel_data {
@@ -36,7 +35,6 @@ fn subscribe_text(
     channel: &str,
     channel_data: Option<&str>,
 ) -> Result<String, Memory>
-    requires { IsTrue (is_good_name channel.now) }
     ensures { IfOk result (λ t. string_bytes t ≡ join_text config.now number channel.now (option_copied channel_data.entry)) }
 {
     let auth = auth_member(alloc, config, number, channel, channel_data)?;
@@ -59,7 +57,6 @@ fn auth_member(
     channel: &str,
     channel_data: Option<&str>,
 ) -> Result<String, Memory>
-    requires { IsTrue (is_good_name channel.now) }
     ensures { IfOk result (λ t. string_bytes t ≡ auth_member config.now number channel.now (option_copied channel_data.entry)) }
 {
     if !needs_auth(channel) {
