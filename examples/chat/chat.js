@@ -3,6 +3,7 @@
 
 const ROOM = "presence-room", WEBHOOKS = "private-webhooks";
 const LONGEST_PAUSE = 20, TYPING_SHOWN = 3000, TYPING_TOLD = 2000;
+const SILENCE = 120; // seconds, until the server has said its own number
 
 // What a close code means to who sits before the page, and whether the page connects again by itself.
 const CLOSED = {
@@ -45,19 +46,20 @@ function connect() {
   the("again").hidden = true;
   const mine = new WebSocket(`ws://${location.hostname}:${settings.port}/app/${settings.key}?protocol=7`);
   wire = mine;
-  let quiet = null, why = null;
-  const listen = (seconds) => {
+  let quiet = null, silence = SILENCE, why = null;
+  const listen = () => {
     // after silence the page asks for a sign of life, and then gives the connection up
     clearTimeout(quiet);
-    quiet = setTimeout(() => { say("pusher:ping", {}); quiet = setTimeout(() => mine.close(), 30000); }, seconds * 1000);
+    quiet = setTimeout(() => { say("pusher:ping", {}); quiet = setTimeout(() => mine.close(), 30000); }, silence * 1000);
   };
   mine.onmessage = (message) => {
-    listen(120);
     const frame = JSON.parse(message.data);
+    if (frame.event === "pusher:connection_established") silence = read(frame.data).activity_timeout;
+    listen();
     hear(frame, mine).catch((fault) => { why = `The page couldn't go on: ${fault.message}.`; mine.close(); });
   };
   mine.onclose = (end) => { clearTimeout(quiet); if (wire === mine) closed(end.code, why); };
-  listen(120); // from the start, so that a connection that never comes about is given up too
+  listen(); // from the start, so that a connection that never comes about is given up too
 }
 
 // Why is what the page itself ended the connection for, if it did.
@@ -181,10 +183,13 @@ async function whisper(to, name) {
 
 the("entrance").onsubmit = async (event) => {
   event.preventDefault();
+  const enter = the("entrance").querySelector("button");
+  enter.disabled = true; // a second click would open a second connection
   try {
     settings = await (await fetch("/settings")).json();
     me = await ask("/enter", { text: the("name").value });
   } catch (fault) {
+    enter.disabled = false;
     return show(`You weren't let in: ${fault.message}.`, "bad");
   }
   the("entrance").hidden = true;
