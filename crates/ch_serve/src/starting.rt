@@ -13,8 +13,8 @@ use crate::working::WorkerThread;
 use ch_base::Memory;
 use ch_config::Config;
 use ch_edge::Park;
-use ch_house::{House, PassesList};
-use ch_intake::{Intake, IntakePasses};
+use ch_house::{House, Passes, PassesList};
+use ch_intake::{Intake, IntakePass, IntakePasses};
 use ch_net::Link;
 use ch_worker::{NoGate, Worker};
 use std::alloc::Global;
@@ -50,7 +50,7 @@ pub(crate) fn worker_threads<'a, L: Link, C: Park<L> + Drop>(
         → t ≡ seat (new_worker site.now.config.now site.now.start) (fresh_passes site.now.house.now i)) }
 {
     let count = clocks.len() as u64;
-    let mut threads = Vec::new(site.alloc);
+    let mut threads = Vec::with_capacity(site.alloc, clocks.len())?;
     let mut clocks = clocks.into_iter();
     for number in 0..count {
         let Some(clock) = clocks.next() else {
@@ -62,11 +62,27 @@ pub(crate) fn worker_threads<'a, L: Link, C: Park<L> + Drop>(
         let Some(slot) = slots.take(number) else {
             unreachable!()
         };
-        threads.push(WorkerThread {
-            desk: NotedDesk::new(site.house, own),
-            worker: Worker::new(site.alloc, site.config, site.start, NoGate)?,
-            arrivals: IntakeArrivals::new(site.intake, slot, clock),
-        })?;
+        let thread = worker_thread(site, own, slot, clock)?;
+        threads.push_reserved(thread);
     }
     Ok(threads)
+}
+
+/// A worker's thread with the passes of its number.
+fn worker_thread<'a, L: Link, C: Park<L> + Drop>(
+    site: &Site<'a, L>,
+    passes: Passes,
+    slot: IntakePass<Numbered<L>>,
+    clock: C,
+) -> Result<WorkerThread<'a, L, C>, Memory>
+    requires config { IsConfig site.now.config.now }
+    requires own { (passes.house ≡ site.now.house.now) × (slot.intake ≡ site.now.intake.now) }
+    ensures { IfOk result (λ thread. thread ≡ seat (new_worker site.now.config.now site.now.start) passes) }
+{
+    let worker = Worker::new(site.alloc, site.config, site.start, NoGate)?;
+    Ok(WorkerThread {
+        desk: NotedDesk::new(site.house, passes),
+        worker,
+        arrivals: IntakeArrivals::new(site.intake, slot, clock),
+    })
 }

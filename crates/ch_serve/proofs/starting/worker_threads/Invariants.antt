@@ -1,4 +1,4 @@
-use Rattle.std.proofs.Common.{◌≡◌, ℕ, ◌+◌, ◌<◌, ◌≤◌, length, None}
+use Rattle.std.proofs.Common.{◌≡◌, ℕ, ◌+◌, ◌<◌, ◌≤◌, length, None, vec_capacity}
 use Rattle.std.specs.Prelude.{slice_index_or}
 use Rattle.std.specs.Vec.Iter.{into_iter_len}
 use Rattle.ch_serve.proofs.NewThreads.{AreNew}
@@ -11,6 +11,7 @@ invariant-loop-number g l = record {
   intake : l.slots.intake ≡ l.fn.slots.intake;
   clocks : l.number + into_iter_len l.clocks ≡ l.count;
   count : length l.threads.items ≡ l.number;
+  room : l.count ≤ vec_capacity l.threads;
   emptied : (i : ℕ) → i < l.number → slice_index_or l.passes.slots i None ≡ None;
   left : (i : ℕ) → l.number ≤ i → slice_index_or l.passes.slots i None ≡ slice_index_or l.fn.passes.slots i None;
   slots_left : (i : ℕ) → l.number ≤ i → slice_index_or l.slots.slots i None ≡ slice_index_or l.fn.slots.slots i None;
